@@ -1,0 +1,17 @@
+pub mod Literals
+pub mod Statuses
+pub mod Values
+pub mod Pages
+pub mod RowLaws
+pub mod DraftLaws
+pub mod ClauseFillings
+pub mod GroupFillings
+pub mod Lists
+pub mod Valuations
+pub mod AnswerLaws
+pub mod BookLaws
+pub mod ClauseLaws
+pub mod GroupLaws
+pub mod JoinLaws
+pub mod ClauseTells
+pub mod GroupTells

@@ -1,0 +1,14 @@
+pub mod Literals
+pub mod Clauses
+pub mod Sources
+pub mod Books
+pub mod Rows
+pub mod Drafts
+pub mod Spans
+pub mod ClauseFilling
+pub mod ClauseTelling
+pub mod GroupRows
+pub mod GroupFilling
+pub mod GroupTelling
+pub mod Values
+pub mod Telling

@@ -1,0 +1,4 @@
+pub mod Orders
+pub mod Scales
+pub mod Choosing
+pub mod Weighing
