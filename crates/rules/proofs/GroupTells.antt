@@ -27,7 +27,6 @@ use Rattle.std.specs.Options.{orOther}
 use Rattle.std.specs.declared.option.Option.{Option}
 use Rattle.std.specs.declared.option.Option.the-variants.{Some, None}
 use Rattle.rules.specs.declared.span.Span.{Span}
-use Rattle.rules.specs.declared.groups.telling.GroupStatus.{GroupStatus}
 use Rattle.rules.specs.declared.groups.telling.GroupStatus.the-variants.{Over, Tight, Other}
 use Rattle.rules.specs.declared.literal.Value.{Value}
 use Rattle.rules.specs.declared.literal.Value.the-variants.{True, False, Unassigned}

@@ -4,11 +4,11 @@ use mathlib.Core.List.{List, [], _∷_}
 use mathlib.Core.Logic.{_⊎_, inl, inr}
 use mathlib.Core.Bool.{Bool, true, false, cond, _||_, not, false≢true}
 use lib.IntN.{ℤ, negℤ}
-use Rattle.std.specs.shelf.Lists.{All, kept-by}
-use Rattle.std.proofs.shelf.Tests.{or-cases, or-left, or-right, both-ways, cases-bool, not-true, not-from-false}
+use Rattle.std.specs.shelf.Lists.{kept-by}
+use Rattle.std.proofs.shelf.Tests.{or-cases, or-left, both-ways, cases-bool, not-true, not-from-false}
 use Rattle.rules.specs.Literals.{same, has}
 use Rattle.rules.specs.Clauses.{Status, Status.falsified, Status.unit, Status.other, loose, by-loose, status, is-falsified, is-unit}
-use Rattle.rules.proofs.Literals.{same-true, same-refl, has-first, has-later, all-has}
+use Rattle.rules.proofs.Literals.{same-true, has-first, has-later}
 
 -- what a filter keeps of a list of literals
 pub kept-in : (p : ℤ → Bool) (ls : List ℤ) (x : ℤ) → has (kept-by p ls) x ≡ true → (has ls x ≡ true) × (p x ≡ true)

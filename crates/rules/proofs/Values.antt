@@ -3,22 +3,19 @@ use mathlib.Core.Path.{_≡_, refl, sym, _∙_, ap, subst}
 use mathlib.Core.List.{List, [], _∷_, _++_}
 use mathlib.Core.Logic.{_⊎_, inl, inr}
 use mathlib.Core.Bool.{Bool, true, false, cond, not}
-use Prim.Native.Nat.{ℕ, _-_, _<_}
+use Prim.Native.Nat.{_-_, _<_}
 use native.Mathlib.Omega.{arith}
 use lib.Dec.{leb}
 use lib.IntN.{ℤ, pos, negsuc, negℤ}
 use lib.ListN.{length, getD}
-use Rattle.std.specs.shelf.Lists.{kept-by}
 use Rattle.std.proofs.shelf.Elements.{kept-by-append}
 use Rattle.std.proofs.shelf.Lists.{append-nil, getD-past}
-use Rattle.std.proofs.shelf.Tests.{and-left, and-right, cases-bool, cond-true, cond-false, lt-leb, ne-eqb, both-ways}
+use Rattle.std.proofs.shelf.Tests.{and-left, and-right, cond-false, lt-leb, ne-eqb, both-ways}
 use Rattle.rules.specs.Literals.{var, same}
-use Rattle.rules.specs.Clauses.{Status, Status.falsified, Status.unit, Status.other, loose, by-loose, status}
+use Rattle.rules.specs.Clauses.{Status.falsified, Status.unit, Status.other, loose, by-loose, status}
 use Rattle.rules.specs.Sources.{true-in}
 use Rattle.rules.specs.Values.{value-in, kind-of, with-value}
-use Rattle.rules.specs.declared.literal.Value.{Value}
 use Rattle.rules.specs.declared.literal.Value.the-variants.{True, False, Unassigned}
-use Rattle.rules.specs.declared.status.ClauseStatus.{ClauseStatus}
 use Rattle.rules.specs.declared.status.ClauseStatus.the-variants.{Other}
 use Rattle.rules.proofs.Literals.{var-neg}
 

@@ -1,9 +1,9 @@
 use mathlib.Core.Path.{_≡_, refl, ap, _∙_}
-use Prim.Native.Nat.{_+_, _-_, min}
+use Prim.Native.Nat.{_+_, _-_}
 use native.Mathlib.Omega.{arith}
 use borrow.Author.Needs.{needs}
 use borrow.Rule.Slice.PartMut.{putMid}
-use lib.ListN.{length, take}
+use lib.ListN.{take}
 use Rattle.rules.proofs.Pages.{page-told}
 use Rattle.rules.proofs.source.tell.Needs as need
 

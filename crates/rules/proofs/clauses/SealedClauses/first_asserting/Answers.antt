@@ -1,5 +1,5 @@
-use mathlib.Core.Path.{_≡_, refl, sym, ap, subst, _∙_}
-use mathlib.Core.Bool.{true, false}
+use mathlib.Core.Path.{_≡_, sym, ap, subst, _∙_}
+use mathlib.Core.Bool.{false}
 use Prim.Native.Nat.{_+_, _-_, _<_}
 use native.Mathlib.Omega.{arith}
 use borrow.Author.Needs.{needs}
@@ -10,7 +10,7 @@ use mir.Val.{SFits}
 use Rattle.std.proofs.shelf.Lists.{length-drop, at-drop-all}
 use Rattle.std.proofs.shelf.Signed.{toZ-ofZ}
 use Rattle.std.proofs.shelf.Tests.{cond-true, cond-false}
-use Rattle.rules.specs.Rows.{is-zero, rows}
+use Rattle.rules.specs.Rows.{rows}
 use Rattle.rules.specs.Clauses.{status}
 use Rattle.rules.specs.Sources.{true-in, Answer.tells, or-else}
 use Rattle.rules.specs.Values.{value-in, with-value}

@@ -1,6 +1,6 @@
-use mathlib.Core.Path.{_≡_, refl, sym, ap, subst, _∙_}
-use mathlib.Core.Bool.{true, false}
-use mathlib.Core.List.{List, map}
+use mathlib.Core.Path.{_≡_, sym, ap, subst, _∙_}
+use mathlib.Core.Bool.{false}
+use mathlib.Core.List.{map}
 use Prim.Native.Nat.{_+_}
 use native.Mathlib.Omega.{arith}
 use lib.ListN.{drop}
@@ -11,7 +11,7 @@ use Rattle.rules.specs.Rows.{rows}
 use Rattle.rules.specs.Sources.{true-in, Answer.tells, or-else}
 use Rattle.rules.specs.GroupRows.{as-group, is-limit, last-word}
 use Rattle.rules.specs.Spans.{span-words}
-use Rattle.rules.specs.GroupTelling.{group-answer, group-clause, Fitting}
+use Rattle.rules.specs.GroupTelling.{group-answer, Fitting}
 use Rattle.rules.proofs.AnswerLaws.{or-silent, told-hit, told-next}
 use Rattle.rules.proofs.GroupTells.{group-told, group-found, status-over, status-tight, status-other, or-group, or-fitting, first-fits}
 use Rattle.rules.proofs.groups.SealedGroups.first_asserting.Needs as need
