@@ -1,0 +1,13 @@
+pub mod Weighing
+pub mod Trail
+pub mod Chunks
+pub mod Look
+pub mod Conflict
+pub mod Search
+pub mod Run
+pub mod Calls
+pub mod Events
+pub mod Promise
+pub mod Laws
+pub mod Determined
+pub mod KnownRuns
