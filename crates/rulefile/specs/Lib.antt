@@ -1,0 +1,9 @@
+pub mod Bytes
+pub mod Numbers
+pub mod Words
+pub mod Places
+pub mod Ahead
+pub mod Faults
+pub mod Form
+pub mod Outcomes
+pub mod Grammar
