@@ -19,7 +19,6 @@ use Rattle.rules.specs.ClauseFilling as C
 use Rattle.rules.specs.GroupFilling as G
 use Rattle.rulefile.specs.declared.words.Position.{Position}
 use Rattle.rulefile.specs.declared.faults.Misfit.the-variants.{NotAllowed, Count}
-use Rattle.rulefile.specs.declared.faults.FormFault.{FormFault}
 use Rattle.rulefile.specs.declared.faults.FormFault.the-variants as F
 use Rattle.rulefile.specs.declared.faults.BookFault.{BookFault}
 use Rattle.rulefile.specs.declared.faults.BookFault.the-variants as B
@@ -29,7 +28,7 @@ use Rattle.rulefile.specs.declared.form.Start.{Start}
 use Rattle.rulefile.specs.declared.form.Start.the-variants as S
 use Rattle.rulefile.specs.Words.{Seen, number, other, bad, end}
 use Rattle.rulefile.specs.Form.{Taken, negative, misfit, natural-next, start-next, with-literal, literals-next, literals-from}
-use Rattle.rulefile.specs.Outcomes.{Rule, clause, group, extended, Rules, all, broken, rule, between, limit, within, rules-in, Books, both, answer, with-rule, filled, told, placed, rule-read, clause-read, group-rule, group-read}
+use Rattle.rulefile.specs.Outcomes.{Rule, clause, group, extended, Rules, all, broken, rule, between, limit, within, rules-in, Books, both, answer, filled, told, placed, rule-read, clause-read, group-rule, group-read}
 use Rattle.rulefile.proofs.FormLaws.{err-ok}
 use Rattle.rulefile.proofs.RuleLaws.{ok-first, ok-second}
 

@@ -1,8 +1,8 @@
 -- A text is read exactly when it is a file whose rules the books take.
-use Prim.Native.Nat.{ℕ, suc, zero, _+_, _-_, _≤_, _<_}
+use Prim.Native.Nat.{ℕ, suc, zero, _-_, _≤_, _<_}
 use mathlib.Core.Path.{_≡_, refl, ap, sym, _∙_, subst}
-use mathlib.Core.Bool.{Bool, true, false, cond, _&&_}
-use mathlib.Core.List.{List, [], _∷_, _++_, map, append-nil, append-assoc}
+use mathlib.Core.Bool.{Bool, true, false, cond}
+use mathlib.Core.List.{List, [], _∷_}
 use native.Mathlib.Omega.{arith}
 use lib.Chars.{codes}
 use lib.Dec.{eqb, ltb}
@@ -13,23 +13,19 @@ use Rattle.std.specs.declared.result.Result.{Result}
 use Rattle.std.specs.declared.result.Result.the-variants.{Ok, Err}
 use Rattle.std.specs.shelf.Text.{sameBytes}
 use Rattle.std.proofs.shelf.Equals.{sameBytes-decides}
-use Rattle.std.proofs.shelf.Tests.{cond-true, cond-false, eqb-true, eqb-false, ne-eqb, eq-eqb, le-ltb, ltb-false, and-parts, false≢true}
+use Rattle.std.proofs.shelf.Tests.{cond-true, cond-false, eqb-true, eqb-false, ne-eqb, le-ltb, ltb-false, false≢true}
 use Rattle.rules.specs.Rows.{is-zero}
-use Rattle.rules.specs.Drafts.{Reply, book-count}
-use Rattle.rules.specs.Books.{Group}
-use Rattle.rules.specs.ClauseFilling as C
-use Rattle.rules.specs.GroupFilling as G
+use Rattle.rules.specs.Drafts.{Reply}
 use Rattle.rulefile.specs.declared.words.Position.{Position}
-use Rattle.rulefile.specs.declared.faults.Misfit.the-variants.{NotAllowed, TooLarge, Count, Ends}
-use Rattle.rulefile.specs.declared.faults.FormFault.{FormFault}
+use Rattle.rulefile.specs.declared.faults.Misfit.the-variants.{NotAllowed, Count}
 use Rattle.rulefile.specs.declared.faults.FormFault.the-variants as F
 use Rattle.rulefile.specs.declared.faults.BookFault.{BookFault}
 use Rattle.rulefile.specs.declared.faults.BookFault.the-variants as B
 use Rattle.rulefile.specs.declared.form.Natural.{Natural}
 use Rattle.rulefile.specs.Words.{Seen, number, other, bad, end}
-use Rattle.rulefile.specs.Form.{Taken, negative, misfit, limited, natural-next, count-next, word-next, and-then, opening, with-literal, literals-next, literals-from}
-use Rattle.rulefile.specs.Outcomes.{Rule, clause, group, extended, Rules, all, broken, rule, between, limit, within, rules-in, Books, both, fresh, answer, with-rule, filled, counted, opened, outcome}
-use Rattle.rulefile.specs.Grammar.{Literals, no-more, one-more, RuleIn, clause-in, group-in, RulesIn, no-rule, one-rule, HeadIn, head, clauses-of, groups-of, File, takes, holding}
+use Rattle.rulefile.specs.Form.{Taken, negative, misfit, limited, count-next, word-next, and-then, opening, with-literal, literals-next, literals-from}
+use Rattle.rulefile.specs.Outcomes.{Rule, clause, group, extended, Rules, all, broken, rule, between, limit, within, rules-in, Books, fresh, answer, with-rule, filled, counted, opened, outcome}
+use Rattle.rulefile.specs.Grammar.{Literals, no-more, one-more, RuleIn, clause-in, group-in, RulesIn, no-rule, one-rule, HeadIn, head, clauses-of, File, takes}
 use Rattle.rulefile.proofs.FormLaws.{err-ok}
 use Rattle.rulefile.proofs.RuleLaws.{ok-first, ok-second}
 use Rattle.rulefile.proofs.FillingLaws.{ruled, clause-all, group-all, number-ruled, within-ruled}

@@ -9,9 +9,9 @@ use Rattle.std.specs.Iters.{folded}
 use Rattle.std.specs.declared.result.Result.{Result}
 use Rattle.std.specs.declared.result.Result.the-variants.{Ok, Err}
 use Rattle.std.specs.shelf.Lawful.{all-pass}
-use Rattle.std.proofs.shelf.Tests.{cond-both, cond-true, cond-false, eq-eqb, le-ltb, false≢true}
+use Rattle.std.proofs.shelf.Tests.{cond-true, cond-false, eq-eqb, le-ltb, false≢true}
 use Rattle.rules.specs.Literals.{has, any-pass}
-use Rattle.rules.specs.Sources.{makes, satisfies, Meaning, together, mute, joined}
+use Rattle.rules.specs.Sources.{makes, satisfies, Meaning, together, mute}
 use Rattle.rules.specs.Books.{Group, keeps, clause-book, group-book}
 use Rattle.rules.specs.Drafts.{book-count}
 use Rattle.rules.specs.ClauseFilling as C
@@ -19,10 +19,10 @@ use Rattle.rules.specs.GroupFilling as G
 use Rattle.rules.proofs.Literals.{has-any}
 use Rattle.rulefile.specs.declared.faults.BookFault.{BookFault}
 use Rattle.rulefile.specs.Words.{Seen}
-use Rattle.rulefile.specs.Outcomes.{Rule, clause, group, Books, fresh, with-rule, outcome, told}
-use Rattle.rulefile.specs.Grammar.{clauses-of, groups-of, File, takes, holding, meaning, obeys, Accepted, Judged}
+use Rattle.rulefile.specs.Outcomes.{Rule, clause, group, Books, with-rule, outcome, told}
+use Rattle.rulefile.specs.Grammar.{clauses-of, groups-of, holding, meaning, Accepted, Judged}
 use Rattle.rulefile.proofs.FormLaws.{err-ok}
-use Rattle.rulefile.proofs.GrammarLaws.{Taking, file-sound, file-complete, file-once}
+use Rattle.rulefile.proofs.GrammarLaws.{file-sound, file-complete, file-once}
 
 -- WHAT THE BOOKS HOLD
 

@@ -1,7 +1,7 @@
 -- Laws of gaps and words: one byte more, one word more.
 use Prim.Native.Nat.{ℕ, suc, _+_, _-_, _≤_, _<_}
 use mathlib.Core.Path.{_≡_, refl, ap, sym, _∙_}
-use mathlib.Core.Bool.{Bool, true, false, cond}
+use mathlib.Core.Bool.{Bool, true, false, cond, false≢true}
 use mathlib.Core.List.{List, [], _∷_, _++_, append-nil, append-assoc}
 use native.Mathlib.Nat.{add-zero}
 use native.Mathlib.Omega.{arith}
@@ -20,7 +20,7 @@ use Rattle.rulefile.specs.declared.words.Mode.the-variants.{Fresh, Inside, Com
 use Rattle.rulefile.specs.declared.words.Position.{Position}
 use Rattle.rulefile.specs.declared.words.Misspelling.{Misspelling}
 use Rattle.rulefile.specs.Numbers.{number-of}
-use Rattle.rulefile.specs.Words.{gap-class, is-gap, in-line, in-comment, passed, line-after, Spot, spot, gap, run, Seen, end, position, meant, begun, word-seen, between, within, shown, is-end, took}
+use Rattle.rulefile.specs.Words.{gap-class, is-gap, in-line, in-comment, passed, line-after, Spot, spot, gap, run, Seen, number, other, bad, end, position, meant, begun, word-seen, between, within, shown, took, left-after}
 
 -- A WORD'S BYTES
 
@@ -119,6 +119,12 @@ module _ (a : Position) (l : ℕ) where
           ∙ h ∙ (rw (append-assoc, s) refl) ∙ sym (ap (split w q (b ∷ bs)) r)
 
 -- what a word is seen as: never the end
+abbrev is-end : Seen → Bool
+is-end (number w z p) = false
+is-end (other w p) = false
+is-end (bad f) = false
+is-end (end p) = true
+
 meant-goes : (w : List ℕ) (a : Position) (z : Result ℤ Misspelling) (rest : List Seen) → (took (meant w a z) rest ≡ meant w a z ∷ rest) × (is-end (meant w a z) ≡ false)
 meant-goes w a (Ok z) rest = (refl, refl)
 meant-goes w a (Err k) rest = (refl, refl)
@@ -134,17 +140,23 @@ word-goes : (w : List ℕ) (a : Position) (rest : List Seen) → (took (word-see
 word-goes [] a rest = (refl, refl)
 word-goes (b ∷ bs) a rest = begun-goes (class-of b) (b ∷ bs) a rest
 
+left-took : (t : Seen) (rest : List Seen) → is-end t ≡ false → rest ≡ left-after (took t rest)
+left-took (number w z p) rest e = refl
+left-took (other w p) rest e = refl
+left-took (bad f) rest e = refl
+left-took (end p) rest e = absurd (false≢true (sym e))
+
 -- From a place p of the text s in line l, a gap leads to the place q in line k.
 module _ (m : Mode) (p l q k : ℕ) (s : List ℕ) (led : gap m p l (drop p s) ≡ spot q k (drop q s)) where
   -- there the text ends
   pub end-next : length s ≤ q → shown (between m) p l (drop p s) ≡ end (position k q) ∷ []
   end-next h = gap-shown m p l (drop p s) ∙ ap shown-at led ∙ at-drop-all (λ (x : List ℕ). shown-at (spot q k x)) s q h
 
-  pub end-again : (n : ℕ) → length s ≤ q → n ≡ run (take (length s - q) (drop q s)) → shown (between Inside) (q + n) k (drop (q + n) s) ≡ shown (between m) p l (drop p s)
+  pub end-again : (n : ℕ) → length s ≤ q → n ≡ run (take (length s - q) (drop q s)) → shown (between Inside) (q + n) k (drop (q + n) s) ≡ left-after (shown (between m) p l (drop p s))
   end-again n h e =
       let z : n ≡ 0 = e ∙ ap run (take-rest s q) ∙ run-end s q h in
       let zero : q + n ≡ q = omega arith in
-      rw zero (at-drop-all (shown (between Inside) q k) s q h) ∙ sym (end-next h)
+      rw zero (at-drop-all (shown (between Inside) q k) s q h) ∙ ap left-after (sym (end-next h))
 
   -- there a word begins, of n bytes
   module _ (n : ℕ) (more : q < length s) (stops : is-gap (getD s q 0) ≡ false) (is : n ≡ run (take (length s - q) (drop q s))) where
@@ -170,8 +182,9 @@ module _ (m : Mode) (p l q k : ℕ) (s : List ℕ) (led : gap m p l (drop p s) �
         ∙ ap (λ (x : List ℕ). word-seen (getD s q 0 ∷ take (run (drop (q + 1) s)) (drop (q + 1) s)) (position k q) ∷ shown (between Inside) (q + 1 + run (drop (q + 1) s)) k x) (drop-drop (run (drop (q + 1) s)) (q + 1) s)
         ∙ (rw e refl) ∙ ap (λ (w : List ℕ). word-seen w (position k q) ∷ shown (between Inside) (q + n) k (drop (q + n) s)) (sym part-is)
 
-    pub token-next : (t : Seen) → t ≡ word-seen part (position k q) → let rest = shown (between Inside) (q + n) k (drop (q + n) s) in (shown (between m) p l (drop p s) ≡ took t rest) × (is-end t ≡ false)
+    pub token-next : (t : Seen) → t ≡ word-seen part (position k q) → let rest = shown (between Inside) (q + n) k (drop (q + n) s) in let here = shown (between m) p l (drop p s) in (here ≡ took t rest) × (rest ≡ left-after here)
     token-next t e =
         let rest = shown (between Inside) (q + n) k (drop (q + n) s) in
         let g = word-goes part (position k q) rest in
-        (word-next ∙ sym (g .0) ∙ ap (λ (x : Seen). took x rest) (sym e), ap is-end e ∙ g .1)
+        let here = word-next ∙ sym (g .0) ∙ ap (λ (x : Seen). took x rest) (sym e) in
+        (here, left-took t rest (ap is-end e ∙ g .1) ∙ ap left-after (sym here))

@@ -1,7 +1,7 @@
 -- The form of a rule file, word by word.
 use Prim.Native.Nat.{ℕ, _-_}
 use mathlib.Core.Bool.{Bool, true, false, cond}
-use mathlib.Core.List.{List, [], _∷_, _++_}
+use mathlib.Core.List.{List, [], _∷_}
 use lib.Chars.{codes}
 use lib.Dec.{eqb, ltb}
 use lib.IntN.{ℤ, pos, negsuc, natAbs}
@@ -18,7 +18,7 @@ use Rattle.rulefile.specs.declared.form.Number.{Number}
 use Rattle.rulefile.specs.declared.form.Natural.{Natural}
 use Rattle.rulefile.specs.declared.form.Start.{Start}
 use Rattle.rulefile.specs.declared.form.Start.the-variants as S
-use Rattle.rulefile.specs.Words.{Seen, number, other, bad, end, position}
+use Rattle.rulefile.specs.Words.{Seen, number, other, bad, end, position, left-after}
 
 -- PARTS OF THE FORM
 
@@ -81,6 +81,13 @@ and-then (Err f) next = Err f
 -- the words `p` and `cnf` and the number of variables, at most 1,000
 abbrev pub opening : List Seen → Taken Natural
 opening ts = and-then (word-next (codes "p") ts) (λ rest. and-then (word-next (codes "cnf") rest) (count-next 1000))
+
+-- what is left after it, or after the word that is not as it should be
+abbrev pub opening-left : List Seen → List Seen
+opening-left ts = elim (word-next (codes "p") ts) [
+  | Ok t ↦ elim (word-next (codes "cnf") (left-after ts)) [ Ok u ↦ left-after (left-after (left-after ts)) | Err f ↦ left-after (left-after ts) ]
+  | Err f ↦ left-after ts
+]
 
 -- What begins between rules, where n clauses are left to come: a clause, a group by the word `a`, or nothing at the text's end.
 abbrev pub start-next : ℕ → List Seen → Taken Start

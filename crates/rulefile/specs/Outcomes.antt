@@ -131,7 +131,7 @@ pub record SameSizes (c c′ : ClauseBook) (g g′ : GroupBook) : Type 0 where
   pub clauses : C.filling c′ .size ≡ C.filling c .size
   pub groups : G.filling g′ .size ≡ G.filling g .size
 
--- A book that is given up: it has no variable and no rule, and all its words are 0.
+-- Books that are given up: they have no variable and no rule, and all their words are 0.
 pub record GivenUp (c c′ : ClauseBook) (g g′ : GroupBook) : Type 0 where
   pub clauses : C.filling c′ ≡ C.empty 0 (C.filling c .size)
   pub clause-words : now (c′ .words) ≡ replicate (length (now (c .words))) (pos 0)

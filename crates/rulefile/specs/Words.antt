@@ -34,7 +34,7 @@ gap-class Other = false
 abbrev pub is-gap : ℕ → Bool
 is-gap b = gap-class (class-of b)
 
--- within a line that is no comment: how a gap goes on after a byte, which for one of no other class is given
+-- within a line that is no comment: how a gap goes on after a byte; for one of the class other it is given
 abbrev pub in-line : Class → Option Mode → Option Mode
 in-line Blank o = Some Inside
 in-line LineEnd o = Some Fresh
@@ -93,12 +93,6 @@ seen (Ok (T.Other w)) = other (now (w .text)) (w .at)
 seen (Ok (T.End p)) = end p
 seen (Err f) = bad f
 
-abbrev pub is-end : Seen → Bool
-is-end (number w z p) = false
-is-end (other w p) = false
-is-end (bad f) = false
-is-end (end p) = true
-
 abbrev pub position : ℕ → ℕ → Position
 position l p = record { line = l; place = p }
 
@@ -141,3 +135,11 @@ took (number w z p) rest = number w z p ∷ rest
 took (other w p) rest = other w p ∷ rest
 took (bad f) rest = bad f ∷ rest
 took (end p) rest = end p ∷ []
+
+-- what is left after the first word; the end stays
+abbrev pub left-after : List Seen → List Seen
+left-after [] = []
+left-after (number w z p ∷ ts) = ts
+left-after (other w p ∷ ts) = ts
+left-after (bad f ∷ ts) = ts
+left-after (end p ∷ ts) = end p ∷ ts

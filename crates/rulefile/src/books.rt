@@ -141,17 +141,17 @@ fn read_body(
 /// Reads a file from its number of clauses on into the books, which it empties first; the file has so many variables.
 /// After a failure the books have no variable and no rule, and all their words are 0.
 pub fn read_rest(
-    reader: &mut Reader<'_>,
+    mut reader: Reader<'_>,
     variables: u32,
     clauses: &mut ClauseBook<'_>,
     groups: &mut GroupBook<'_>,
 ) -> Result<(), BookFault>
-    ensures outcome { λ r. ⌜ told r (books (now (clauses .exit)) (now (groups .exit))) ≡ rest-outcome (clausebook.filling (now (clauses .entry)) .size) (groupbook.filling (now (groups .entry)) .size) variables (ahead (now (reader .entry))) ⌝ }
+    ensures outcome { λ r. ⌜ told r (books (now (clauses .exit)) (now (groups .exit))) ≡ rest-outcome (clausebook.filling (now (clauses .entry)) .size) (groupbook.filling (now (groups .entry)) .size) variables (ahead (reader .entry)) ⌝ }
     ensures emptied { λ r. ⌜ failed r (GivenUp (now (clauses .entry)) (now (clauses .exit)) (now (groups .entry)) (now (groups .exit))) ⌝ }
 {
     clauses.reset(variables);
     groups.reset(variables);
-    let read = read_body(reader, clauses, groups);
+    let read = read_body(&mut reader, clauses, groups);
     if let Err(_) = read {
         clauses.reset(0);
         groups.reset(0);
@@ -174,5 +174,5 @@ pub fn read(
     groups.reset(0);
     let mut reader = Reader::new(text);
     let variables = read_variables(&mut reader)?;
-    read_rest(&mut reader, variables.value, clauses, groups)
+    read_rest(reader, variables.value, clauses, groups)
 }

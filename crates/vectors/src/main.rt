@@ -99,7 +99,7 @@ fn read_file(
     if variables.value > MOST_VARIABLES {
         return Err(ProgramFault::Variables(variables.at));
     }
-    read_rest(&mut reader, variables.value, clauses, groups)?;
+    read_rest(reader, variables.value, clauses, groups)?;
     Ok(())
 }
 

@@ -3,7 +3,8 @@ ghost use mathlib.Core.Path.{_≡_};
 ghost use Rattle.std.specs.shelf.Text.{sameBytes};
 ghost use Rattle.rulefile.specs.Ahead.{ahead};
 ghost use Rattle.rules.specs.Rows.{is-zero};
-ghost use Rattle.rulefile.specs.Form.{negative, taken, number-next, natural-next, count-next, word-next, opening, start-next};
+ghost use Rattle.rulefile.specs.Words.{left-after};
+ghost use Rattle.rulefile.specs.Form.{negative, taken, number-next, natural-next, count-next, word-next, opening, opening-left, start-next};
 use crate::faults::FormFault;
 use crate::faults::FormFaultFromWord;
 use crate::faults::Misfit;
@@ -21,7 +22,8 @@ const MOST_CLAUSES: u32 = 65_535;
 
 /// A number.
 pub(crate) fn next_number(reader: &mut Reader<'_>) -> Result<Number, FormFault>
-    ensures { λ r. ⌜ number-next (ahead (now (reader .entry))) ≡ taken r (ahead (now (reader .exit))) ⌝ }
+    ensures taken { λ r. ⌜ number-next (ahead (now (reader .entry))) ≡ taken r (ahead (now (reader .exit))) ⌝ }
+    ensures left { λ _. ⌜ ahead (now (reader .exit)) ≡ left-after (ahead (now (reader .entry))) ⌝ }
 {
     match reader.next()? {
         Token::Number(word, value) => Ok(Number { value, at: word.at }),
@@ -39,7 +41,8 @@ fn is_negative(value: i32) -> bool
 
 /// A number without a minus.
 pub(crate) fn next_natural(reader: &mut Reader<'_>) -> Result<Natural, FormFault>
-    ensures { λ r. ⌜ natural-next (ahead (now (reader .entry))) ≡ taken r (ahead (now (reader .exit))) ⌝ }
+    ensures taken { λ r. ⌜ natural-next (ahead (now (reader .entry))) ≡ taken r (ahead (now (reader .exit))) ⌝ }
+    ensures left { λ _. ⌜ ahead (now (reader .exit)) ≡ left-after (ahead (now (reader .entry))) ⌝ }
 {
     let Number { value, at } = next_number(reader)?;
     if is_negative(value) {
@@ -53,7 +56,8 @@ pub(crate) fn next_natural(reader: &mut Reader<'_>) -> Result<Natural, FormFault
 
 /// A number without a minus, and at most `most`.
 fn next_count(reader: &mut Reader<'_>, most: u32) -> Result<Natural, FormFault>
-    ensures { λ r. ⌜ count-next most (ahead (now (reader .entry))) ≡ taken r (ahead (now (reader .exit))) ⌝ }
+    ensures taken { λ r. ⌜ count-next most (ahead (now (reader .entry))) ≡ taken r (ahead (now (reader .exit))) ⌝ }
+    ensures left { λ _. ⌜ ahead (now (reader .exit)) ≡ left-after (ahead (now (reader .entry))) ⌝ }
 {
     let count = next_natural(reader)?;
     if count.value > most {
@@ -71,7 +75,8 @@ fn is_word(word: &[u8], key: &[u8]) -> bool
 
 /// The word that has to stand here.
 fn next_word(reader: &mut Reader<'_>, key: &[u8]) -> Result<(), FormFault>
-    ensures { λ r. ⌜ word-next (now (key .entry)) (ahead (now (reader .entry))) ≡ taken r (ahead (now (reader .exit))) ⌝ }
+    ensures taken { λ r. ⌜ word-next (now (key .entry)) (ahead (now (reader .entry))) ≡ taken r (ahead (now (reader .exit))) ⌝ }
+    ensures left { λ _. ⌜ ahead (now (reader .exit)) ≡ left-after (ahead (now (reader .entry))) ⌝ }
 {
     match reader.next()? {
         Token::Other(word) => {
@@ -88,7 +93,8 @@ fn next_word(reader: &mut Reader<'_>, key: &[u8]) -> Result<(), FormFault>
 
 /// The head of a file up to the number of variables: the words `p` and `cnf`, and the number.
 pub fn read_variables(reader: &mut Reader<'_>) -> Result<Natural, FormFault>
-    ensures { λ r. ⌜ opening (ahead (now (reader .entry))) ≡ taken r (ahead (now (reader .exit))) ⌝ }
+    ensures taken { λ r. ⌜ opening (ahead (now (reader .entry))) ≡ taken r (ahead (now (reader .exit))) ⌝ }
+    ensures left { λ _. ⌜ ahead (now (reader .exit)) ≡ opening-left (ahead (now (reader .entry))) ⌝ }
 {
     next_word(reader, b"p")?;
     next_word(reader, b"cnf")?;

@@ -1,9 +1,9 @@
 //! Going over a text, word by word.
 ghost use mathlib.Core.Path.{_≡_};
-ghost use mathlib.Core.Bool.{true, false};
+ghost use mathlib.Core.Bool.{false};
 ghost use Prim.Native.Nat.{_+_, _≤_, _<_};
 ghost use lib.ListN.{length, drop, getD};
-ghost use Rattle.rulefile.specs.Words.{is-gap, passed, gap, spot, run, seen, is-end, word-seen, seen-in, took};
+ghost use Rattle.rulefile.specs.Words.{is-gap, passed, gap, spot, run, seen, word-seen, seen-in, took, left-after};
 ghost use Rattle.std.specs.shelf.Lists.{All};
 ghost use Rattle.rulefile.specs.Ahead.{ahead};
 ghost use Rattle.rulefile.specs.Places.{Shows};
@@ -34,7 +34,7 @@ impl<'a> Reader<'a> {
     /// The next word, or the end, which comes again and again.
     pub fn next(&mut self) -> Result<Token<'a>, WordFault>
         ensures ahead { λ r. ⌜ ahead (now (self .entry)) ≡ took (seen r) (ahead (now (self .exit))) ⌝ }
-        ensures stays { λ r. ⌜ (is-end (seen r) ≡ true → ahead (now (self .exit)) ≡ ahead (now (self .entry))) ⌝ }
+        ensures left { λ _. ⌜ ahead (now (self .exit)) ≡ left-after (ahead (now (self .entry))) ⌝ }
     {
         let text = self.text;
         let (cursor, line) = skip(text, self.cursor, self.line, self.mode);

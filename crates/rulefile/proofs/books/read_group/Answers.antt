@@ -9,7 +9,7 @@ pub returns-in-Break-first : need.returns-in-Break-first
 returns-in-Break-first c =
     let p = err-from-errBy (c .from-residual-in-Break-first .result) (c .from-residual-in-Break-first .ensures .1) in
     record {
-      read = group-first (filling (c .args .book .now)) _ _ _ _ (c .in-Continue-limit .ensures tt) _ (c .in-Break-first .ensures tt) ∙ (rw (p .1, p .2) refl);
+      read = group-first (filling (c .args .book .now)) _ _ _ _ (c .in-Continue-limit .ensures tt .taken) _ (c .in-Break-first .ensures tt .taken) ∙ (rw (p .1, p .2) refl);
       sized = refl;
     }
 
@@ -19,7 +19,7 @@ returns-in-Break-push-group c =
     let b = filling (c .args .book .now) in
     let pushed = c .in-Break-push-group .ensures tt in
     record {
-      read = group-first b _ _ _ _ (c .in-Continue-limit .ensures tt) _ (c .in-Continue-first .ensures tt) ∙ group-broken _ b _ _ _ (pushed .pushed) ∙ (rw (p .1, p .2) refl);
+      read = group-first b _ _ _ _ (c .in-Continue-limit .ensures tt .taken) _ (c .in-Continue-first .ensures tt .taken) ∙ group-broken _ b _ _ _ (pushed .pushed) ∙ (rw (p .1, p .2) refl);
       sized = pushed .sized;
     }
 
@@ -28,7 +28,7 @@ returns c =
     let b = filling (c .args .book .now) in
     let pushed = c .in-Continue-push-group .ensures tt in
     record {
-      read = group-first b _ _ _ _ (c .in-Continue-limit .ensures tt) _ (c .in-Continue-first .ensures tt)
+      read = group-first b _ _ _ _ (c .in-Continue-limit .ensures tt .taken) _ (c .in-Continue-first .ensures tt .taken)
           ∙ group-ended _ b (c .pre) _ _ _ _ (pushed .pushed) _ (c .end .ensures .answer) _ (c .end .ensures .after) _ (c .placed .ensures);
       sized = group-settled-size (filling (c .push-group .last .book)) (filling (c .end .last .self)) _ (c .end .result) (c .end .ensures .after) ∙ pushed .sized;
     }

@@ -1,8 +1,6 @@
 use native.Mathlib.Omega.{arith}
-use mathlib.Core.Path.{sym}
 use Prim.Native.Nat.{_<_}
 use lib.ListN.{length}
-use Rattle.std.proofs.shelf.Tests.{both-ways}
 use Rattle.rulefile.proofs.WordLaws.{end-next, end-again, part-long, token-next}
 use Rattle.rulefile.proofs.words.Reader.next.Needs as need
 
@@ -19,7 +17,7 @@ returns-then-cursor-text c =
     let led = c .skip-cursor .ensures .spot in
     record {
       ahead = end-next _ _ _ _ _ s led (omega arith);
-      stays = λ _. end-again _ _ _ _ _ s led _ (omega arith) (c .run-length-length .ensures .value);
+      left = end-again _ _ _ _ _ s led _ (omega arith) (c .run-length-length .ensures .value);
     }
 
 pub returns : need.returns
@@ -28,4 +26,4 @@ returns c =
     let q = c .skip-cursor .result .0 in
     let more : q < length s = omega arith in
     let next = token-next _ _ _ q _ s (c .skip-cursor .ensures .spot) _ more (c .skip-cursor .ensures .stops more) (c .run-length-length .ensures .value) _ (c .token .ensures) in
-    record { ahead = next .0; stays = λ e. absurd (both-ways _ (next .1) e) }
+    record { ahead = next .0; left = next .1 }
