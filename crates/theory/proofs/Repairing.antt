@@ -99,7 +99,7 @@ module _ (n : ℕ) (t : Trail) (w : WellFormed n t) (C : List ℤ) (fa : status 
               (λ x h. let k = others-outside x h in undo-keeps (level t d) t (negℤ x) (left-false x (k .0)) (k .1));
         }
 
-    repaired-formed : WellFormed n (implied u (others-of u (learned n S)) ∷ without-chunk t d)
+    pub repaired-formed : WellFormed n (implied u (others-of u (learned n S)) ∷ without-chunk t d)
     repaired-formed = subst (λ s. WellFormed n (implied u (others-of u (learned n S)) ∷ s)) (undone-rank n t w d (tch .decision)) (repaired-top, undo-formed n (level t d) t w)
 
     -- where the clause has no level above that of d, the literal placed falls below it

@@ -1,0 +1,15 @@
+pub mod Words
+pub mod Decode
+pub mod Placing
+pub mod Marking
+pub mod Undoing
+pub mod Implying
+pub mod Counting
+pub mod Resolving
+pub mod Collecting
+pub mod Analysing
+pub mod Storing
+pub mod Repairing
+pub mod Asserting
+pub mod Valuing
+pub mod Clearing

@@ -1,0 +1,4 @@
+pub mod Words
+pub mod Decode
+pub mod Analysis
+pub mod Repair
