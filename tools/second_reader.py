@@ -1,5 +1,5 @@
 #!/usr/bin/env python3
-"""A second reader of rule files, written from docs/RULES.md alone, to compare with.
+"""A second reader of rule files, to compare with: it shares no code with `crates/rulefile`, but its author had read that crate.
 
     python3 tools/second_reader.py < crates/vectors/stdin | cmp - crates/vectors/stdout
 
