@@ -3,6 +3,8 @@
 //!
 //! Nothing here is public: these functions ask that the words stand for a position, and the calls of a session, which are
 //! to be built on them, will ask nothing.
+#![tactic(auto)]
+
 mod analysis;
 mod ask;
 mod choose;

@@ -7,6 +7,8 @@
 //!
 //! Variable t, from 1 to 4, says that the worker takes step t; otherwise the producer does. Variable 5 says that the
 //! worker found the queue empty, variable 6 that the wakeup came before the sleep.
+#![tactic(auto)]
+
 use anyhow::anyhow;
 use rules::clauses::ClauseBook;
 use rules::groups::GroupBook;

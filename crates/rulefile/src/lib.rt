@@ -10,6 +10,8 @@
 //!
 //! Three layers read a file, each with faults of its own: words, form, books. The first word to cause a fault decides; a
 //! book refuses a rule at its closing 0, and the fault then stands at the rule's first word.
+#![tactic(auto)]
+
 pub mod books;
 pub mod bytes;
 pub mod faults;

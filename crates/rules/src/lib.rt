@@ -1,4 +1,6 @@
 //! Rules over variables: literals, sources of rules, and books of clauses and of groups.
+#![tactic(auto)]
+
 pub mod clauses;
 pub mod groups;
 pub mod join;

@@ -1,5 +1,7 @@
 //! What a search is and what is promised of every session, as theorems about the definitions in `specs/`.
 //! Each function here stands for a theorem: its contract is the statement, and it does nothing.
+#![tactic(auto)]
+
 ghost use Rattle.theory.specs.Determined.{ChunkDecided, LookDetermined, ChoiceDetermined, AnalysisDetermined, EndDetermined, StepDetermined, EndOrStep, EndOrStepThere, RunDetermined, AnswersDetermined, CallsAnswered};
 ghost use Rattle.theory.specs.KnownRuns.{KnownRuns};
 ghost use Rattle.theory.specs.Laws.{RunsJoin, PausedAtLimit, LongRunsEnd, VerdictsAgree, RunsCounted, StepsPlaced};

@@ -2,6 +2,8 @@
 //!
 //! The byte 30, the record separator, stands behind each file. A file with more than 64 variables is refused at that number,
 //! before what follows it is looked at.
+#![tactic(auto)]
+
 ghost use Rattle.std.specs.Prelude.{◌≡◌, ◌≤◌, length, IfOk};
 ghost use Rattle.vectors.specs.declared.ProgramFault.TheVariants.{Reading};
 

@@ -8,6 +8,8 @@
 //! Variable t, from 1 to 4, says that the worker takes step t; otherwise the producer does. Variable 5 says that the
 //! worker found the queue empty, 6 that the wakeup came before the sleep, 7 that the worker holds a lock from its check to
 //! its sleep, and 8 that a second worker is idle, of which no rule speaks.
+#![tactic(auto)]
+
 use anyhow::anyhow;
 use memory::report::Verdict;
 use memory::{Idle, Search, Settled};
