@@ -1,5 +1,6 @@
 -- Laws of answers.
 use Rattle.std.proofs.Common.{◌≡◌, Bool, true, false, cond, List, [], ◌∷◌, ℤ, All, refl, ap, ◌∙◌, subst}
+use Rattle.std.proofs.lemmas.List.Elements.{All-nil, All-cons, All-head, All-tail}
 use Rattle.std.proofs.lemmas.Bool.{cond_both, cond-true, cond-false}
 use Rattle.rules.specs.Sources.{Answer, Answer.silent, Answer.tells, tell_first, or_else}
 
@@ -14,9 +15,11 @@ tells_apart C e = subst (λ a. Telling (λ _. ⊥) a → ⊥) e (λ z. z) tt
 -- what holds of the clause of each that passes, and of the other answer if none does, holds of what the first tells
 pub tell_first_both : {A : Type 0} (p : A → Bool) (clause : A → List ℤ) (xs : List A) (otherwise : Answer) (P : Answer → Type 0)
     → All (λ x. p x ≡ true → P (tells (clause x))) xs → (All (λ x. p x ≡ false) xs → P otherwise) → P (tell_first p clause xs otherwise)
-tell_first_both p clause [] otherwise P some none = none tt
-tell_first_both p clause (x ∷ xs) otherwise P some none =
-    cond_both (p x) (tells (clause x)) (tell_first p clause xs otherwise) P some.0 (λ e. tell_first_both p clause xs otherwise P some.1 (λ h. none (e, h)))
+tell_first_both {A = A} p clause [] otherwise P some none = none (All-nil (λ x. p x ≡ false))
+tell_first_both {A = A} p clause (x ∷ xs) otherwise P some none =
+    let told : A → Type 0 = λ y. p y ≡ true → P (tells (clause y)) in
+    cond_both (p x) (tells (clause x)) (tell_first p clause xs otherwise) P (All-head told x xs some)
+    (λ e. tell_first_both p clause xs otherwise P (All-tail told x xs some) (λ h. none (All-cons (λ y. p y ≡ false) x xs e h)))
 
 pub or_else_both : (a b : Answer) (P : Answer → Type 0) → ((C : List ℤ) → a ≡ tells C → P (tells C)) → (a ≡ silent → P b) → P (or_else a b)
 or_else_both silent b P told quiet = quiet refl

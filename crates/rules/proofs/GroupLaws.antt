@@ -3,7 +3,7 @@ use Rattle.std.proofs.Common.{◌≡◌, ℕ, ◌+◌, ◌<◌, ◌≤◌, Bool,
 use mathlib.Core.Bool.{and-not_self}
 use lib.IntN.{neg_ℤ-neg_ℤ}
 use Rattle.std.specs.List.{list_all}
-use Rattle.std.proofs.lemmas.List.Elements.{All-weaker, All-take, All-map, All-push, All-filter, filter_passes, filter-append}
+use Rattle.std.proofs.lemmas.List.Elements.{All-nil, All-cons, All-head, All-tail, All-weaker, All-take, All-map, All-push, All-filter, filter_passes, filter-append}
 use Rattle.std.proofs.lemmas.List.{length-take-le, length_push, map_push}
 use Rattle.std.proofs.lemmas.Bool.{both_ways, cases_Bool, and_parts, and_right, or_parts, eqb-true, ne_eqb, leb-true, le-leb, ltb-true, ltb-false, le-ltb, not-true, not-false}
 use Rattle.rules.specs.Literals.{var, in_range, has, Once}
@@ -32,10 +32,11 @@ unassigned f l = not (f l) && not (f (neg_ℤ l))
 
 -- an assignment that makes none of the negations true makes all of the literals true
 all_made : (bs : List Bool) (xs : List ℤ) → All (λ x. 1 ≤ var x) xs → satisfies bs (map neg_ℤ xs) ≡ false → All (λ x. makes bs x ≡ true) xs
-all_made bs [] b h = tt
+all_made bs [] b h = All-nil (λ x. makes bs x ≡ true)
 all_made bs (x ∷ xs) b h =
     let r = or_parts (makes bs (neg_ℤ x)) (satisfies bs (map neg_ℤ xs)) h in
-    (not-false (makes bs x) (sym (makes_neg bs x b.0) ∙ r.0), all_made bs xs b.1 r.1)
+    let named : ℤ → Type 0 = λ y. 1 ≤ var y in
+    All-cons (λ y. makes bs y ≡ true) x xs (not-false (makes bs x) (sym (makes_neg bs x (All-head named x xs b)) ∙ r.0)) (all_made bs xs (All-tail named x xs b) r.1)
 
 -- the negations of true literals are not loose
 negations_false : (f : ℤ → Bool) (xs : List ℤ) → All (λ x. f x ≡ true) xs → loose f (map neg_ℤ xs) ≡ []
@@ -49,7 +50,7 @@ negations_loose f xs y h e =
 -- the first of a list that has one
 first_of : (P : ℤ → Type 0) (ls : List ℤ) → 0 < length ls → All P ls → (y : ℤ) × (take 1 ls ≡ y ∷ []) × P y
 first_of P [] h a = let q : ⊥ = omega arith in absurd q
-first_of P (y ∷ ls) h a = (y, refl, a.0)
+first_of P (y ∷ ls) h a = (y, refl, All-head P y ls a)
 
 module _ (n : ℕ) (G : Group) (ranged : (x : ℤ) → has G.literals x ≡ true → in_range n x ≡ true) (once : Once G.literals) (m : Meaning) (obeys : Obeys groups G m) (row : List ℤ) where
   -- the literal stands in the group

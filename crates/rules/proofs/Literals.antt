@@ -1,5 +1,6 @@
 -- Laws of literals and of lists of them.
 use Rattle.std.proofs.Common.{◌≡◌, ℕ, zero, suc, ◌<◌, ◌≤◌, Bool, true, false, ◌&&◌, ◌||◌, eqb, leb, ◌⊎◌, List, [], ◌∷◌, ◌++◌, length, ℤ, pos, negsuc, neg_ℤ, Decides, All, sym, refl, ap, ◌∙◌, subst, inl, inr, arith}
+use Rattle.std.proofs.lemmas.List.Elements.{All-nil, All-cons, All-head, All-tail}
 use mathlib.Core.Bool.{false≢true}
 use Rattle.std.specs.List.{HoldsAt}
 use Rattle.std.proofs.lemmas.Bool.{eqb-true, eq-eqb, or_cases, or_left, or_right, and_parts, and_from, leb-true, le-leb}
@@ -73,11 +74,11 @@ has_push (k ∷ ls) l x = ap (λ b. same x k || b) (has_push ls l x) ∙ or_asso
 pub all_has : (P : ℤ → Type 0) (ls : List ℤ) → All P ls → (x : ℤ) → has ls x ≡ true → P x
 all_has P [] h x e = absurd (false≢true e)
 all_has P (l ∷ ls) h x e = elim (or_cases (same x l) (has ls x) e)
-    [ inl p ↦ subst P (sym (same_true x l p)) h.0 | inr p ↦ all_has P ls h.1 x p ]
+    [ inl p ↦ subst P (sym (same_true x l p)) (All-head P l ls h) | inr p ↦ all_has P ls (All-tail P l ls h) x p ]
 
 pub has_all : (P : ℤ → Type 0) (ls : List ℤ) → ((x : ℤ) → has ls x ≡ true → P x) → All P ls
-has_all P [] h = tt
-has_all P (l ∷ ls) h = (h l (has_first l ls), has_all P ls (λ x e. h x (has_later l ls x e)))
+has_all P [] h = All-nil P
+has_all P (l ∷ ls) h = All-cons P l ls (h l (has_first l ls)) (has_all P ls (λ x e. h x (has_later l ls x e)))
 
 pub names_has : (ls : List ℤ) (v : ℕ) → names ls v ≡ true → (x : ℤ) × (has ls x ≡ true) × (v ≡ var x)
 names_has [] v h = absurd (false≢true h)

@@ -1,5 +1,5 @@
 use Rattle.std.proofs.Common.{◌≡◌, Bool, true, false, List, [], ◌∷◌, ◌++◌, length, Some, None, All, Contains, Option, sym, refl, ap, ◌∙◌, subst, ⊎_elim, append_assoc, arith, length-append}
-use Rattle.std.proofs.lemmas.List.Elements.{All-contains, All-push, All-weaker, Contains-append_right, Contains-get_or}
+use Rattle.std.proofs.lemmas.List.Elements.{All-nil, All-cons, All-head, All-tail, All-contains, All-push, All-weaker, Contains-append_right, Contains-get_or}
 use Rattle.std.proofs.lemmas.Bool.{both_ways, cases_Bool, cond_both}
 use Rattle.weights.specs.Choosing.{FirstLeast, Choice, offered}
 use Rattle.weights.specs.Orders.{Total, Chain}
@@ -8,9 +8,9 @@ module _ {X : Type 0} (at_most : X → X → Bool) where
   -- of two that are at most each other, with none before either that is at most it, both stand at one place
   same_place : (before after before' after' : List X) (x y : X) → before ++ (x ∷ after) ≡ before' ++ (y ∷ after') → at_most x y ≡ true → at_most y x ≡ true → All (λ z. at_most z x ≡ false) before → All (λ z. at_most z y ≡ false) before' → x ≡ y
   same_place [] after [] after' x y e xy yx f f' = cc
-  same_place [] after (z ∷ before') after' x y e xy yx f f' = let same : z ≡ x = cc in absurd (both_ways (at_most x y) (subst (λ v. at_most v y ≡ false) same f'.0) xy)
-  same_place (z ∷ before) after [] after' x y e xy yx f f' = let same : z ≡ y = cc in absurd (both_ways (at_most y x) (subst (λ v. at_most v x ≡ false) same f.0) yx)
-  same_place (z ∷ before) after (z' ∷ before') after' x y e xy yx f f' = same_place before after before' after' x y (cc) xy yx f.1 f'.1
+  same_place [] after (z ∷ before') after' x y e xy yx f f' = let same : z ≡ x = cc in absurd (both_ways (at_most x y) (subst (λ v. at_most v y ≡ false) same (All-head (λ v. at_most v y ≡ false) z before' f')) xy)
+  same_place (z ∷ before) after [] after' x y e xy yx f f' = let same : z ≡ y = cc in absurd (both_ways (at_most y x) (subst (λ v. at_most v x ≡ false) same (All-head (λ v. at_most v x ≡ false) z before f)) yx)
+  same_place (z ∷ before) after (z' ∷ before') after' x y e xy yx f f' = same_place before after before' after' x y (cc) xy yx (All-tail (λ v. at_most v x ≡ false) z before f) (All-tail (λ v. at_most v y ≡ false) z' before' f')
 
   -- a first least is at most another
   at_most_other : (row : List X) (x y : X) → FirstLeast at_most row x → FirstLeast at_most row y → at_most x y ≡ true
@@ -36,7 +36,7 @@ module _ {X : Type 0} (at_most : X → X → Bool) where
 
     -- the first that is offered is taken
     alone : (x : X) → FirstLeast at_most (x ∷ []) x
-    alone x = record { before = []; after = []; stands = refl; least = (at_most_itself x, tt); first = tt }
+    alone x = record { before = []; after = []; stands = refl; least = All-cons (λ y. at_most x y ≡ true) x [] (at_most_itself x) (All-nil (λ y. at_most x y ≡ true)); first = All-nil (λ y. at_most y x ≡ false) }
 
     -- the one kept stays where it is at most the new one
     stays : (row : List X) (kept x : X) → FirstLeast at_most row kept → at_most kept x ≡ true → FirstLeast at_most (row ++ (x ∷ [])) kept

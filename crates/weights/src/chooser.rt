@@ -27,8 +27,8 @@ impl<W: Order> Chooser<W> {
 
     /// Offers one more candidate: it is kept from now on, unless the one kept so far is at most it.
     pub fn offer(&mut self, candidate: Candidate<W>)
-        ensures step { self.new.kept ≡ offered (by_weight at_most) self.old.kept candidate }
-        ensures choice { (row : List (Candidate W)) → Choice (by_weight at_most) row self.old.kept → Choice (by_weight at_most) (row ++ (candidate ∷ [])) self.new.kept }
+        ensures step { self.new.kept ≡ offered (by_weight W.at_most) self.old.kept candidate }
+        ensures choice { (row : List (Candidate W)) → Choice (by_weight W.at_most) row self.old.kept → Choice (by_weight W.at_most) (row ++ (candidate ∷ [])) self.new.kept }
     {
         let least = &mut self.kept;
         let earlier = *least;
@@ -41,7 +41,7 @@ impl<W: Order> Chooser<W> {
     /// The first least of the candidates offered so far, or nothing where none was.
     pub fn chosen(&self) -> Option<Candidate<W>>
         ensures value { result ≡ self.now.kept }
-        ensures only { (row : List (Candidate W)) (other : Option (Candidate W)) → Choice (by_weight at_most) row self.now.kept → Choice (by_weight at_most) row other → other ≡ result }
+        ensures only { (row : List (Candidate W)) (other : Option (Candidate W)) → Choice (by_weight W.at_most) row self.now.kept → Choice (by_weight W.at_most) row other → other ≡ result }
     {
         self.kept
     }

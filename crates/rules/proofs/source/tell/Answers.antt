@@ -9,7 +9,7 @@ returns c =
     let C = c.args.clause.now in
     let start = c.min-start.result in
     let k = c.min-fits.result in
-    let front : c.copy-from-slice.new.self ≡ take k C = search rules in
+    let front : c.copy_from_slice.new.self ≡ take k C = search rules in
     let e : start + k - start ≡ k = omega arith in
     record {
       told = refl;

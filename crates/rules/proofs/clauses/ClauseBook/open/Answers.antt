@@ -3,7 +3,7 @@ use Rattle.rules.specs.Books.{clause_fits}
 use Rattle.rules.proofs.RowLaws.{kept_zeros}
 use Rattle.rules.proofs.clauses.ClauseBook.open.Goals as goal
 
-pub invariant-of-result : goal.invariant-of-result
-invariant-of-result c =
-    let fits = clause_fits c.book-count-variables.result in
-    (kept_zeros fits fits (length c.args.words.now) c.fill.new.self (search rules) refl, (refl, tt))
+pub invariant_of-result : goal.invariant_of-result
+invariant_of-result c =
+    let fits = clause_fits c.book_count-variables.result in
+    record { kept = kept_zeros fits fits (length c.args.words.now) c.fill.new.self (search rules) refl; counted = refl }

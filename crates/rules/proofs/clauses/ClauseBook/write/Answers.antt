@@ -17,15 +17,16 @@ returns-then-end-self c =
     let size = length b.words.now in
     sym (cond-false _ (extended (filling b) c.args.literal) (faulted (filling b) NoRoom) (ap (λ k. ltb k size) (book_end b) ∙ le-ltb (b.used + b.len) size c.if-end-self.true))
 
-pub invariant-of-self-2 : goal.invariant-of-self-2
-invariant-of-self-2 c =
+pub invariant_of-self-2 : goal.invariant_of-self-2
+invariant_of-self-2 c =
     let b = c.args.self.now in
     let fits = clause_fits b.variables in
-    let word = sym (to_z-of_z w32 c.args.literal c.ranges.literal) in (
-      subst (λ (z : ℤ). Kept fits (unless b.fault fits) b.used (b.len + 1) (set b.words.now (b.used + b.len) z)) word
-          (book_pushed b c.args.literal c.requires.ranged c.requires.new c.requires.fine c.if-end-self.false),
-      (b.counted ∙ ap (λ k. length (rows k)) (sym (take-set-le b.used b.words.now (b.used + b.len) _ (omega arith))), tt),
-    )
+    let word = sym (to_z-of_z w32 c.args.literal c.ranges.literal) in
+    record {
+      kept = subst (λ (z : ℤ). Kept fits (unless b.fault fits) b.used (b.len + 1) (set b.words.now (b.used + b.len) z)) word
+          (book_pushed b c.args.literal c.requires.ranged c.requires.new c.requires.fine c.if-end-self.false);
+      counted = b.counted ∙ ap (λ k. length (rows k)) (sym (take-set-le b.used b.words.now (b.used + b.len) _ (omega arith)));
+    }
 
 pub returns : goal.returns
 returns c =

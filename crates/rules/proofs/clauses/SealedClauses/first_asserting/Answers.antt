@@ -29,7 +29,7 @@ literals-preserved c =
       omega arith,
       omega arith,
       next.0,
-      c.with-status.ensures ∙ ap (with_value c.literals.status) (c.value-of.ensures ∙ ap (value_in (true_in row)) (to_z-of_z w32 w f)) ∙ next.1,
+      c.with-status.ensures ∙ ap (with_value c.literals.status) (c.value_of.ensures ∙ ap (value_in (true_in row)) (to_z-of_z w32 w f)) ∙ next.1,
     )
 
 pub clauses-preserved : goal.clauses-preserved

@@ -7,14 +7,15 @@ use Rattle.rules.proofs.RowLaws.{kept_popped}
 use Rattle.rules.proofs.GroupFillings.{same_parts}
 use Rattle.rules.proofs.groups.GroupBook.take_back.Goals as goal
 
-pub invariant-of-self-in-loop-self : goal.invariant-of-self-in-loop-self
-invariant-of-self-in-loop-self c =
+pub invariant_of-self-in-loop-self : goal.invariant_of-self-in-loop-self
+invariant_of-self-in-loop-self c =
     let b = c.loop-self.self in
     let fits = draft_fits b.variables b.last in
-    let drafts = unless b.fault fits in (
-      kept_popped (group_row_fits b.variables) drafts drafts b.used b.len b.words.now b.kept c.loop-self-test.true (λ row. ap (λ f. unless f fits row) c.loop-self.invariant.1),
-      (b.few, tt),
-    )
+    let drafts = unless b.fault fits in
+    record {
+      kept = kept_popped (group_row_fits b.variables) drafts drafts b.used b.len b.words.now b.kept c.loop-self-test.true (λ row. ap (λ f. unless f fits row) c.loop-self.invariant.1);
+      few = b.few;
+    }
 
 pub loop-self-preserved : goal.loop-self-preserved
 loop-self-preserved c =

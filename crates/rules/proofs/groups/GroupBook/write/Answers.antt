@@ -12,30 +12,31 @@ use Rattle.rules.proofs.RowLaws.{draft_pushed}
 use Rattle.rules.proofs.GroupFillings.{same_parts, book_end, book_raised, book_pushed}
 use Rattle.rules.proofs.groups.GroupBook.write.Goals as goal
 
-pub invariant-of-self : goal.invariant-of-self
-invariant-of-self c =
+pub invariant_of-self-else-end-self : goal.invariant_of-self-else-end-self
+invariant_of-self-else-end-self c =
     let b = c.args.self.now in
-    let last = c.unsigned-abs-self.ensures.value ∙ ap var (to_z-of_z w32 c.args.literal c.ranges.literal) in
-    (book_raised b c.unsigned-abs-self.result (omega (arith, last, c.requires.rises)), (b.few, tt))
+    let last = c.unsigned_abs-self.ensures.value ∙ ap var (to_z-of_z w32 c.args.literal c.ranges.literal) in
+    record { kept = book_raised b c.unsigned_abs-self.result (omega (arith, last, c.requires.rises)); few = b.few }
 
 pub returns-then-end-self : goal.returns-then-end-self
 returns-then-end-self c =
     let b = c.args.self.now in
     let l = c.args.literal in
     let more = raised (filling b) l in
-    same_parts refl refl refl refl (c.unsigned-abs-self.ensures.value ∙ ap var (to_z-of_z w32 l c.ranges.literal)) refl
+    same_parts refl refl refl refl (c.unsigned_abs-self.ensures.value ∙ ap var (to_z-of_z w32 l c.ranges.literal)) refl
     ∙ sym (cond-false _ (extended more l) (faulted more NoRoom) (ap (λ k. ltb k (length b.words.now)) (book_end b) ∙ le-ltb (b.used + b.len) (length b.words.now) c.if-end-self.true))
 
-pub invariant-of-self-2 : goal.invariant-of-self-2
-invariant-of-self-2 c =
+pub invariant_of-self-2 : goal.invariant_of-self-2
+invariant_of-self-2 c =
     let b = c.args.self.now in
     let at = b.used + b.len in
     let z = to_z w32 (of_z w32 c.args.literal) in
-    let word = sym (to_z-of_z w32 c.args.literal c.ranges.literal) in (
-      subst (λ k. Kept (group_row_fits b.variables) (unless b.fault (draft_fits b.variables k)) b.used (b.len + 1) (set b.words.now at z)) (sym c.unsigned-abs-self.ensures.value)
-          (book_pushed b z (subst (λ (x : ℤ). in_range b.variables x ≡ true) word c.requires.ranged) (subst (λ (x : ℤ). b.last < var x) word c.requires.rises) c.requires.fine c.if-end-self.false),
-      (b.few, tt),
-    )
+    let word = sym (to_z-of_z w32 c.args.literal c.ranges.literal) in
+    record {
+      kept = subst (λ k. Kept (group_row_fits b.variables) (unless b.fault (draft_fits b.variables k)) b.used (b.len + 1) (set b.words.now at z)) (sym c.unsigned_abs-self.ensures.value)
+          (book_pushed b z (subst (λ (x : ℤ). in_range b.variables x ≡ true) word c.requires.ranged) (subst (λ (x : ℤ). b.last < var x) word c.requires.rises) c.requires.fine c.if-end-self.false);
+      few = b.few;
+    }
 
 pub returns : goal.returns
 returns c =
@@ -47,5 +48,5 @@ returns c =
     let at = b.used + b.len in
     let more = raised (filling b) l in
     same_parts refl (length-set ws at z) (ap (λ k. map as_group (rows k)) (take-set-le b.used ws at z (omega arith)))
-    (draft_pushed b.used b.len ws z c.if-end-self.false ∙ ap (λ (x : ℤ). (filling b).draft ++ (x ∷ [])) word) (c.unsigned-abs-self.ensures.value ∙ ap var word) refl
+    (draft_pushed b.used b.len ws z c.if-end-self.false ∙ ap (λ (x : ℤ). (filling b).draft ++ (x ∷ [])) word) (c.unsigned_abs-self.ensures.value ∙ ap var word) refl
     ∙ sym (cond-true _ (extended more l) (faulted more NoRoom) (ap (λ k. ltb k (length ws)) (book_end b) ∙ lt-ltb at (length ws) c.if-end-self.false))

@@ -12,11 +12,11 @@ use Rattle.rules.proofs.GroupTells.{group_told, group_found, status_over, status
 use Rattle.rules.proofs.groups.SealedGroups.first_asserting.Goals as goal
 use Rattle.rules.proofs.groups.SealedGroups.first_asserting.Goals.{in-Tight, in-Other}
 
-pub status-of-requires : goal.status-of-requires
-status-of-requires c =
+pub status_of-requires : goal.status_of-requires
+status_of-requires c =
     let b = c.args.self.now in
-    let row = span_words b.words.now c.row-at-start.result in
-    let fits = first_fits b.variables row (rows (drop c.groups.at b.words.now)) (rows (drop (c.row-at-start.result.end + 1) b.words.now)) c.row-at-start.ensures.first c.groups.invariant.1 in
+    let row = span_words b.words.now c.row_at-start.result in
+    let fits = first_fits b.variables row (rows (drop c.groups.at b.words.now)) (rows (drop (c.row_at-start.result.end + 1) b.words.now)) c.row_at-start.ensures.first c.groups.invariant.1 in
     (and_parts (is_limit (last_word row)) (group_fits b.variables (as_group row)) fits.0).0
 
 pub groups-preserved : goal.groups-preserved
@@ -25,16 +25,16 @@ groups-preserved c =
     let ws = b.words.now in
     let row = c.args.valuation.now in
     let f = true_in row in
-    let s = c.row-at-start.result in
+    let s = c.row_at-start.result in
     let words = span_words ws s in
     let G = as_group words in
     let rest = rows (drop (s.end + 1) ws) in
     let old = group_answer f ws c.groups.found in
-    let e = c.row-at-start.ensures in
+    let e = c.row_at-start.ensures in
     let inv = c.groups.invariant in
     let fits = first_fits b.variables words (rows (drop c.groups.at ws)) rest e.first inv.1 in
-    let new : (over f G ≡ false) × (group_answer f ws c.match-status-of.found ≡ group_found row old G) × Fitting b.variables ws c.match-status-of.found =
-    elim c.match-status-of.branch [
+    let new : (over f G ≡ false) × (group_answer f ws c.match-status_of.found ≡ group_found row old G) × Fitting b.variables ws c.match-status_of.found =
+    elim c.match-status_of.branch [
       | in-Tight w ↦
           let k = status_tight f G w.in-Tight.ensures in (
             k.0,
@@ -69,12 +69,12 @@ returns-in-Over c =
     let ws = b.words.now in
     let row = c.args.valuation.now in
     let f = true_in row in
-    let s = c.row-at-start.result in
+    let s = c.row_at-start.result in
     let words = span_words ws s in
     let G = as_group words in
     let rest = rows (drop (s.end + 1) ws) in
     let old = group_answer f ws c.groups.found in
-    let e = c.row-at-start.ensures in
+    let e = c.row_at-start.ensures in
     let inv = c.groups.invariant in
     let fits = first_fits b.variables words (rows (drop c.groups.at ws)) rest e.first inv.1 in
     let hit = status_over f G c.in-Over.ensures in

@@ -13,11 +13,11 @@ loop-literal-preserved c =
     let i = c.loop-literal.literal-index in
     let f = true_in c.args.valuation.now in
     let fits : SFits w32 (get_or ls i (pos 0)) = search rules in
-    let v = c.value-of.result in
-    let more = counted f ls i v c.loop-literal-test.true (c.value-of.ensures ∙ ap (value_in f) (to_z-of_z w32 (get_or ls i (pos 0)) fits)) in
+    let v = c.value_of.result in
+    let more = counted f ls i v c.loop-literal-test.true (c.value_of.ensures ∙ ap (value_in f) (to_z-of_z w32 (get_or ls i (pos 0)) fits)) in
     let inv = c.loop-literal.invariant in
-    let new : (c.match-value-of.holding ≡ c.loop-literal.holding + one_true_more v) × (c.match-value-of.unassigned ≡ c.loop-literal.unassigned + one_open_more v) =
-    elim c.match-value-of.branch [
+    let new : (c.match-value_of.holding ≡ c.loop-literal.holding + one_true_more v) × (c.match-value_of.unassigned ≡ c.loop-literal.unassigned + one_open_more v) =
+    elim c.match-value_of.branch [
       | in-True w ↦ let a = ap one_true_more w.in-True.is in let b = ap one_open_more w.in-True.is in (omega arith, omega arith)
       | in-Unassigned w ↦ let a = ap one_true_more w.in-Unassigned.is in let b = ap one_open_more w.in-Unassigned.is in (omega arith, omega arith)
       | in-False w ↦ let a = ap one_true_more w.in-False.is in let b = ap one_open_more w.in-False.is in (omega arith, omega arith)

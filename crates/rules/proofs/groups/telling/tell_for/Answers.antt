@@ -30,14 +30,14 @@ ranged n row h =
 front : (f : ℤ → Bool) (row : List ℤ) (limit : ℕ) → limit ≡ (as_group row).most → take (limit + 1) (filter f (take (length row - 1 - 0) row)) ≡ take ((as_group row).most + 1) (true_ones f (as_group row))
 front f row limit e = ap (λ k. take (k + 1) (filter f (take (length row - 1 - 0) row))) e ∙ ap (λ k. take ((as_group row).most + 1) (filter f k)) (cut row)
 
-pub limit-of-limit-requires : goal.limit-of-limit-requires
-limit-of-limit-requires c = limited c.args.variables c.args.row.now c.requires.fits
+pub limit_of-limit-requires : goal.limit_of-limit-requires
+limit_of-limit-requires c = limited c.args.variables c.args.row.now c.requires.fits
 
-pub overflow-sub-literals : goal.overflow-sub-literals
-overflow-sub-literals c = limit_long c.args.row.now (limited c.args.variables c.args.row.now c.requires.fits)
+pub overflow_sub-literals : goal.overflow_sub-literals
+overflow_sub-literals c = limit_long c.args.row.now (limited c.args.variables c.args.row.now c.requires.fits)
 
-pub tell-true-len-requires : goal.tell-true-len-requires
-tell-true-len-requires c = record { ranged = ranged c.args.variables c.args.row.now c.requires.fits; few = c.requires.few; limited = c.limit-of-limit.ensures.small }
+pub tell_true-len-requires : goal.tell_true-len-requires
+tell_true-len-requires c = record { ranged = ranged c.args.variables c.args.row.now c.requires.fits; few = c.requires.few; limited = c.limit_of-limit.ensures.small }
 
 pub returns-then-len-limit : goal.returns-then-len-limit
 returns-then-len-limit c =
@@ -46,41 +46,41 @@ returns-then-len-limit c =
     let page = c.args.page.now in
     let f = true_in (take n page) in
     let G = as_group row in
-    let limit = c.limit-of-limit.ensures.limit in
-    let first = front f row c.limit-of-limit.result limit in
-    let count = c.tell-true-len.ensures.count ∙ ap length first in
+    let limit = c.limit_of-limit.ensures.limit in
+    let first = front f row c.limit_of-limit.result limit in
+    let count = c.tell_true-len.ensures.count ∙ ap length first in
     let clause = clause_over f G (omega (arith, c.if-len-limit.true)) in
-    let long : c.tell-true-len.result ≡ length (group_clause f G) = count ∙ sym (length-map (take (G.most + 1) (true_ones f G)) neg_ℤ) ∙ ap length (sym clause) in
+    let long : c.tell_true-len.result ≡ length (group_clause f G) = count ∙ sym (length-map (take (G.most + 1) (true_ones f G)) neg_ℤ) ∙ ap length (sym clause) in
     record {
       told = ap Clause long;
-      page = c.tell-true-len.ensures.page ∙ ap (λ C. page_after n (tells (map neg_ℤ C)) page) first ∙ ap (λ C. page_after n (tells C) page) (sym clause);
+      page = c.tell_true-len.ensures.page ∙ ap (λ C. page_after n (tells (map neg_ℤ C)) page) first ∙ ap (λ C. page_after n (tells C) page) (sym clause);
     }
 
-pub tell-open-requires : goal.tell-open-requires
-tell-open-requires c = record { ranged = ranged c.args.variables c.args.row.now c.requires.fits; few = c.requires.few; limited = omega (arith, c.if-len-limit.false, c.limit-of-limit.ensures.small) }
+pub tell_open-requires : goal.tell_open-requires
+tell_open-requires c = record { ranged = ranged c.args.variables c.args.row.now c.requires.fits; few = c.requires.few; limited = omega (arith, c.if-len-limit.false, c.limit_of-limit.ensures.small) }
 
 pub returns : goal.returns
 returns c =
     let row = c.args.row.now in
     let n = c.args.variables in
     let page = c.args.page.now in
-    let middle = c.tell-true-len.new.page in
-    let len = c.tell-true-len.result in
+    let middle = c.tell_true-len.new.page in
+    let len = c.tell_true-len.result in
     let f = true_in (take n page) in
     let G = as_group row in
-    let limit = c.limit-of-limit.ensures.limit in
-    let first = front f row c.limit-of-limit.result limit in
+    let limit = c.limit_of-limit.ensures.limit in
+    let first = front f row c.limit_of-limit.result limit in
     let C = take (G.most + 1) (true_ones f G) in
-    let count = c.tell-true-len.ensures.count ∙ ap length first in
-    let laid = c.tell-true-len.ensures.page ∙ ap (λ D. page_after n (tells (map neg_ℤ D)) page) first in
+    let count = c.tell_true-len.ensures.count ∙ ap length first in
+    let laid = c.tell_true-len.ensures.page ∙ ap (λ D. page_after n (tells (map neg_ℤ D)) page) first in
     let same : take n middle ≡ take n page = ap (take n) laid ∙ page_front n (map neg_ℤ C) page in
     let rest : filter (is_open (true_in (take n middle))) (take (length row - 1 - 0) row) ≡ open_ones f G =
     ap (λ q. filter (is_open (true_in q)) (take (length row - 1 - 0) row)) same ∙ ap (filter (is_open f)) (cut row) in
     let clause = clause_tight f G (omega (arith, c.if-len-limit.false)) in
     let all = C ++ take 1 (open_ones f G) in
-    let most : c.tell-open.result ≡ length C + length (take 1 (open_ones f G)) = c.tell-open.ensures.count ∙ ap (λ k. len + length (take 1 k)) rest ∙ ap (λ k. k + length (take 1 (open_ones f G))) count in
+    let most : c.tell_open.result ≡ length C + length (take 1 (open_ones f G)) = c.tell_open.ensures.count ∙ ap (λ k. len + length (take 1 k)) rest ∙ ap (λ k. k + length (take 1 (open_ones f G))) count in
     let long : length C + length (take 1 (open_ones f G)) ≡ length (group_clause f G) = sym (length-append C (take 1 (open_ones f G))) ∙ sym (length-map all neg_ℤ) ∙ ap length (sym clause) in
     record {
       told = ap Clause (most ∙ long);
-      page = c.tell-open.ensures.page ∙ ap (page_with n len middle) rest ∙ page_ending n page C (open_ones f G) middle len laid count ∙ ap (λ D. page_after n (tells D) page) (sym clause);
+      page = c.tell_open.ensures.page ∙ ap (page_with n len middle) rest ∙ page_ending n page C (open_ones f G) middle len laid count ∙ ap (λ D. page_after n (tells D) page) (sym clause);
     }

@@ -25,11 +25,11 @@ loop-literal-preserved c =
     let fits : SFits w32 x = search rules in
     let inv = c.loop-literal.invariant in
     let shut : is_open f x ≡ false =
-    sym (c.has-value.ensures ∙ ap (λ q. is_value Unassigned (value_in (true_in (take n q)) (to_z w32 (of_z w32 x)))) inv.0 ∙ ap (λ l. is_value Unassigned (value_in f l)) (to_z-of_z w32 x fits) ∙ is_open_value f x) ∙ c.if-has-value.false in
+    sym (c.has_value.ensures ∙ ap (λ q. is_value Unassigned (value_in (true_in (take n q)) (to_z w32 (of_z w32 x)))) inv.0 ∙ ap (λ l. is_value Unassigned (value_in f l)) (to_z-of_z w32 x fits) ∙ is_open_value f x) ∙ c.if-has_value.false in
     (inv.0, none_stays (is_open f) ls i c.loop-literal-test.true inv.1 shut)
 
-pub returns-then-has-value : goal.returns-then-has-value
-returns-then-has-value c =
+pub returns-then-has_value : goal.returns-then-has_value
+returns-then-has_value c =
     let ls = c.args.literals.now in
     let i = c.loop-literal.literal-index in
     let x = get_or ls i (pos 0) in
@@ -40,7 +40,7 @@ returns-then-has-value c =
     let result_fits : SFits w32 c.negated.result = search rules in
     let inv = c.loop-literal.invariant in
     let free : is_open f x ≡ true =
-    sym (c.has-value.ensures ∙ ap (λ q. is_value Unassigned (value_in (true_in (take n q)) (to_z w32 (of_z w32 x)))) inv.0 ∙ ap (λ l. is_value Unassigned (value_in f l)) (to_z-of_z w32 x fits) ∙ is_open_value f x) ∙ c.if-has-value.true in
+    sym (c.has_value.ensures ∙ ap (λ q. is_value Unassigned (value_in (true_in (take n q)) (to_z w32 (of_z w32 x)))) inv.0 ∙ ap (λ l. is_value Unassigned (value_in f l)) (to_z-of_z w32 x fits) ∙ is_open_value f x) ∙ c.if-has_value.true in
     let first = first_kept (is_open f) ls i c.loop-literal-test.true inv.1 free in
     record {
       count = ap (λ k. c.args.len + length (take 1 k)) (sym first);

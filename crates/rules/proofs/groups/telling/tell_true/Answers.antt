@@ -10,7 +10,7 @@ use Rattle.rules.specs.declared.literal.Value.TheVariants.{True}
 use Rattle.rules.proofs.GroupTells.{ranged_small, small_fits, is_true_value, front_takes, front_stays, page_turn}
 use Rattle.rules.proofs.Pages.{page_none, page_front}
 use Rattle.rules.proofs.groups.telling.tell_true.Goals as goal
-use Rattle.rules.proofs.groups.telling.tell_true.Goals.{then-len-limit+then-has-value, else-len-limit, else-len-limit-via-then-len-limit+else-has-value, else-len-limit-via-else-len-limit}
+use Rattle.rules.proofs.groups.telling.tell_true.Goals.{then-len-limit+then-has_value, else-len-limit, else-len-limit-via-then-len-limit+else-has_value, else-len-limit-via-else-len-limit}
 
 pub negated-requires : goal.negated-requires
 negated-requires c =
@@ -44,9 +44,9 @@ loop-literal-preserved c =
     → (c.if-len-limit.len ≡ length (take (m + 1) (filter f (take (i + 1) ls)))) × (c.if-len-limit.page ≡ page_after n (tells (map neg_ℤ (take (m + 1) (filter f (take (i + 1) ls))))) start) =
     λ way a b. let same = sym (front_stays f ls m i within way) in (a ∙ inv.0 ∙ ap length same, b ∙ inv.1 ∙ ap (λ D. page_after n (tells (map neg_ℤ D)) start) same) in
     elim c.if-len-limit.branch [
-      | then-len-limit+then-has-value w ↦
+      | then-len-limit+then-has_value w ↦
           let result_fits : SFits w32 w.negated.result = search rules in
-          let holds : f x ≡ true = sym (w.has-value.ensures ∙ value) ∙ w.if-has-value.true in
+          let holds : f x ≡ true = sym (w.has_value.ensures ∙ value) ∙ w.if-has_value.true in
           let short : length C ≤ m = omega (arith, w.if-len-limit.true, inv.0) in
           let more = sym (front_takes f ls m i within short holds) in (
             w.len-is ∙ ap (λ k. k + 1) inv.0 ∙ sym (length_push C x) ∙ ap length more,
@@ -54,7 +54,7 @@ loop-literal-preserved c =
                 ∙ page_turn n start C x c.loop-literal.page c.loop-literal.len inv.1 inv.0 ∙ ap (λ D. page_after n (tells (map neg_ℤ D)) start) more,
           )
       | else-len-limit w ↦ elim w.else-len-limit.branch [
-        | else-len-limit-via-then-len-limit+else-has-value v ↦ stays (inl (sym (v.has_value.ensures ∙ value) ∙ v.if-has-value.false)) w.len-is w.page-is
+        | else-len-limit-via-then-len-limit+else-has_value v ↦ stays (inl (sym (v.has_value.ensures ∙ value) ∙ v.if-has_value.false)) w.len-is w.page-is
         | else-len-limit-via-else-len-limit v ↦ stays (inr (omega (arith, v.if-len-limit.false, inv.0))) w.len-is w.page-is
       ]
     ]
