@@ -10,18 +10,18 @@ loop-number-init c = (refl, refl)
 
 pub loop-number-preserved : goal.loop-number-preserved
 loop-number-preserved c = (
-  c.loop-number.invariant.0 ∙ pushes_more pushed _ _ c.loop-number.number.value _ (search rules) (search rules) c.push.ensures _ c.in-ok-number.ensures.taken,
+  c.loop-number.invariant.0 ∙ pushes_more pushed _ _ c.loop-number.number.value _ (search rules) (search rules) c.push.ensures _ c.in_ok-number.ensures.taken,
   clause_pushed_size (filling c.loop-number.book) (filling c.push.new.self) (to_z w32 (of_z w32 c.loop-number.number.value)) c.push.ensures ∙ c.loop-number.invariant.1,
 )
 
 pub loop-number-smaller : goal.loop-number-smaller
-loop-number-smaller c = number_shorter _ _ _ c.in-ok-number.ensures.taken
+loop-number-smaller c = number_shorter _ _ _ c.in_ok-number.ensures.taken
 
-pub returns-in-err-number : goal.returns-in-err-number
-returns-in-err-number c =
-    let p = err_from_is_err_and c.from-residual.result c.from-residual.ensures.1 in
+pub returns-in_err-number : goal.returns-in_err-number
+returns-in_err-number c =
+    let p = err_from_is_err_and c.from_residual.result c.from_residual.ensures.1 in
     record {
-      pushed = c.loop-number.invariant.0 ∙ pushes_more pushed _ _ c.loop-number.number.value _ (search rules) (search rules) c.push.ensures _ c.in-err-number.ensures.taken ∙ (rw (p.1, p.2) refl);
+      pushed = c.loop-number.invariant.0 ∙ pushes_more pushed _ _ c.loop-number.number.value _ (search rules) (search rules) c.push.ensures _ c.in_err-number.ensures.taken ∙ (rw (p.1, p.2) refl);
       sized = clause_pushed_size (filling c.loop-number.book) (filling c.push.new.self) (to_z w32 (of_z w32 c.loop-number.number.value)) c.push.ensures ∙ c.loop-number.invariant.1;
     }
 

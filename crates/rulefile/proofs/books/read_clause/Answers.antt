@@ -6,8 +6,8 @@ use Rattle.rulefile.proofs.books.read_clause.Goals as goal
 
 pub returns : goal.returns
 returns c =
-    let pushed = c.in-ok-push-clause.ensures in
+    let pushed = c.in_ok-push_clause.ensures in
     record {
       read = clause_ended (filling c.args.book.now) c.requires _ _ _ _ pushed.pushed _ c.end.ensures.answer _ c.end.ensures.after _ c.placed.ensures;
-      sized = clause_settled_size (filling c.push-clause.new.book) (filling c.end.new.self) _ c.end.result c.end.ensures.after ∙ pushed.sized;
+      sized = clause_settled_size (filling c.push_clause.new.book) (filling c.end.new.self) _ c.end.result c.end.ensures.after ∙ pushed.sized;
     }

@@ -9,12 +9,12 @@ use Rattle.rulefile.specs.Outcomes.{books, filled}
 use Rattle.rulefile.proofs.FillingLaws.{started, rules_started, clause_left, clause_step, clause_on, group_step, group_on}
 use Rattle.rulefile.proofs.books.read_rules.Goals as goal
 
-pub returns-in-err-first : goal.returns-in-err-first
-returns-in-err-first c =
-    let p = err_from_is_err_and c.from-residual.result c.from-residual.ensures.1 in
+pub returns-in_err-first : goal.returns-in_err-first
+returns-in_err-first c =
+    let p = err_from_is_err_and c.from_residual.result c.from_residual.ensures.1 in
     let n = c.loop-first.left in
     record {
-      read = c.loop-first.invariant.2 ∙ ap (filled (books c.loop-first.clauses c.loop-first.groups)) (rules_started n (ahead c.loop-first.reader) ∙ ap (started n) c.in-err-first.ensures)
+      read = c.loop-first.invariant.2 ∙ ap (filled (books c.loop-first.clauses c.loop-first.groups)) (rules_started n (ahead c.loop-first.reader) ∙ ap (started n) c.in_err-first.ensures)
           ∙ (rw (p.1, p.2) refl);
       sized = c.loop-first.invariant.3;
     }
@@ -22,7 +22,7 @@ returns-in-err-first c =
 pub returns-in-Nothing : goal.returns-in-Nothing
 returns-in-Nothing c =
     let n = c.loop-first.left in
-    let starts : start_next n (ahead c.loop-first.reader) ≡ Ok (S.Nothing, ahead c.next-start.new.reader) = search rules in
+    let starts : start_next n (ahead c.loop-first.reader) ≡ Ok (S.Nothing, ahead c.next_start.new.reader) = search rules in
     record {
       read = c.loop-first.invariant.2 ∙ ap (filled (books c.loop-first.clauses c.loop-first.groups)) (rules_started n (ahead c.loop-first.reader) ∙ ap (started n) starts);
       sized = c.loop-first.invariant.3;
@@ -30,18 +30,18 @@ returns-in-Nothing c =
 
 -- a clause
 
-pub overflow-sub-left : goal.overflow-sub-left
-overflow-sub-left c =
+pub overflow_sub-left : goal.overflow_sub-left
+overflow_sub-left c =
     let n = c.loop-first.left in
     let ts = ahead c.loop-first.reader in
-    let starts : start_next n ts ≡ Ok (S.Clause c.in-Clause.first, ahead c.next-start.new.reader) = search rules in
+    let starts : start_next n ts ≡ Ok (S.Clause c.in-Clause.first, ahead c.next_start.new.reader) = search rules in
     clause_left (books c.loop-first.clauses c.loop-first.groups) n ts _ _ starts
 
 pub loop-first-smaller-in-Continue·-branch-3 : goal.loop-first-smaller-in-Continue·-branch-3
 loop-first-smaller-in-Continue·-branch-3 c =
     let n = c.loop-first.left in
     let ts = ahead c.loop-first.reader in
-    let starts : start_next n ts ≡ Ok (S.Clause c.in-Clause.first, ahead c.next-start.new.reader) = search rules in
+    let starts : start_next n ts ≡ Ok (S.Clause c.in-Clause.first, ahead c.next_start.new.reader) = search rules in
     (clause_on (books c.loop-first.clauses c.loop-first.groups) n ts _ _ starts _ _ c.in-ok-read-clause.ensures.read).0
 
 pub loop-first-preserved-in-Continue·-branch-3 : goal.loop-first-preserved-in-Continue·-branch-3
@@ -49,9 +49,9 @@ loop-first-preserved-in-Continue·-branch-3 c =
     let b = books c.loop-first.clauses c.loop-first.groups in
     let n = c.loop-first.left in
     let ts = ahead c.loop-first.reader in
-    let starts : start_next n ts ≡ Ok (S.Clause c.in-Clause.first, ahead c.next-start.new.reader) = search rules in
+    let starts : start_next n ts ≡ Ok (S.Clause c.in-Clause.first, ahead c.next_start.new.reader) = search rules in
     let e = c.in-ok-read-clause.ensures in
-    let d = C.filling c.read-clause.new.book in (
+    let d = C.filling c.read_clause.new.book in (
       (clause_on b n ts _ _ starts d _ e.read).1,
       c.loop-first.invariant.1,
       c.loop-first.invariant.2 ∙ clause_step b n ts _ _ starts (Ok tt) d _ e.read,
@@ -63,10 +63,10 @@ returns-in-err-read-clause c =
     let p = err_from_is_err_and c.from-residual-in-err-read-clause.result c.from-residual-in-err-read-clause.ensures.1 in
     let n = c.loop-first.left in
     let ts = ahead c.loop-first.reader in
-    let starts : start_next n ts ≡ Ok (S.Clause c.in-Clause.first, ahead c.next-start.new.reader) = search rules in
+    let starts : start_next n ts ≡ Ok (S.Clause c.in-Clause.first, ahead c.next_start.new.reader) = search rules in
     record {
       read = c.loop-first.invariant.2
-          ∙ clause_step (books c.loop-first.clauses c.loop-first.groups) n ts _ _ starts (Err c.in-err-read-clause.field-0.0) (C.filling c.read-clause.new.book) (ahead c.read-clause.new.reader) c.in-err-read-clause.ensures.read
+          ∙ clause_step (books c.loop-first.clauses c.loop-first.groups) n ts _ _ starts (Err c.in-err-read-clause.field-0.0) (C.filling c.read_clause.new.book) (ahead c.read_clause.new.reader) c.in-err-read-clause.ensures.read
           ∙ (rw (p.1, p.2) refl);
       sized = record { clauses = c.in-err-read-clause.ensures.sized ∙ c.loop-first.invariant.3.clauses; groups = c.loop-first.invariant.3.groups };
     }
@@ -77,7 +77,7 @@ pub loop-first-smaller : goal.loop-first-smaller
 loop-first-smaller c =
     let n = c.loop-first.left in
     let ts = ahead c.loop-first.reader in
-    let starts : start_next n ts ≡ Ok (S.Group c.in-Group.at, ahead c.next-start.new.reader) = search rules in
+    let starts : start_next n ts ≡ Ok (S.Group c.in-Group.at, ahead c.next_start.new.reader) = search rules in
     (group_on (books c.loop-first.clauses c.loop-first.groups) n ts _ _ starts _ _ c.in-ok-read-group.ensures.read).0
 
 pub loop-first-preserved : goal.loop-first-preserved
@@ -85,9 +85,9 @@ loop-first-preserved c =
     let b = books c.loop-first.clauses c.loop-first.groups in
     let n = c.loop-first.left in
     let ts = ahead c.loop-first.reader in
-    let starts : start_next n ts ≡ Ok (S.Group c.in-Group.at, ahead c.next-start.new.reader) = search rules in
+    let starts : start_next n ts ≡ Ok (S.Group c.in-Group.at, ahead c.next_start.new.reader) = search rules in
     let e = c.in-ok-read-group.ensures in
-    let g = G.filling c.read-group.new.book in (
+    let g = G.filling c.read_group.new.book in (
       c.loop-first.invariant.0,
       (group_on b n ts _ _ starts g _ e.read).1,
       c.loop-first.invariant.2 ∙ group_step b n ts _ _ starts (Ok tt) g _ e.read,
@@ -99,10 +99,10 @@ returns-in-err-read-group c =
     let p = err_from_is_err_and c.from-residual-in-err-read-group.result c.from-residual-in-err-read-group.ensures.1 in
     let n = c.loop-first.left in
     let ts = ahead c.loop-first.reader in
-    let starts : start_next n ts ≡ Ok (S.Group c.in-Group.at, ahead c.next-start.new.reader) = search rules in
+    let starts : start_next n ts ≡ Ok (S.Group c.in-Group.at, ahead c.next_start.new.reader) = search rules in
     record {
       read = c.loop-first.invariant.2
-          ∙ group_step (books c.loop-first.clauses c.loop-first.groups) n ts _ _ starts (Err c.in-err-read-group.field-0.0) (G.filling c.read-group.new.book) (ahead c.read-group.new.reader) c.in-err-read-group.ensures.read
+          ∙ group_step (books c.loop-first.clauses c.loop-first.groups) n ts _ _ starts (Err c.in-err-read-group.field-0.0) (G.filling c.read_group.new.book) (ahead c.read_group.new.reader) c.in-err-read-group.ensures.read
           ∙ (rw (p.1, p.2) refl);
       sized = record { clauses = c.loop-first.invariant.3.clauses; groups = c.in-err-read-group.ensures.sized ∙ c.loop-first.invariant.3.groups };
     }

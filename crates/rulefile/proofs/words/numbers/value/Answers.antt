@@ -2,16 +2,16 @@ use Rattle.std.proofs.Common.{◌^◌, ◌<◌, arith, rules}
 use Rattle.rulefile.proofs.NumberLaws.{digits_first, value_more, value_end, power_more, power_below}
 use Rattle.rulefile.proofs.words.numbers.value.Goals as goal
 
-pub overflow-sub-digit : goal.overflow-sub-digit
-overflow-sub-digit c = (digits_first c.args.digits.now c.loop-digit.digit-index c.loop-digit-test.true c.loop-digit.invariant.1).0
+pub overflow_sub-digit : goal.overflow_sub-digit
+overflow_sub-digit c = (digits_first c.args.digits.now c.loop-digit.digit-index c.loop-digit-test.true c.loop-digit.invariant.1).0
 
-pub overflow-mul-n : goal.overflow-mul-n
-overflow-mul-n c =
+pub overflow_mul-n : goal.overflow_mul-n
+overflow_mul-n c =
     let low : c.loop-digit.n < 10 ^ 8 = power_below c.loop-digit.n c.loop-digit.digit-index 8 c.loop-digit.invariant.0 (omega arith) in
     search rules
 
-pub overflow-add-n : goal.overflow-add-n
-overflow-add-n c =
+pub overflow_add-n : goal.overflow_add-n
+overflow_add-n c =
     let low : c.loop-digit.n < 10 ^ 8 = power_below c.loop-digit.n c.loop-digit.digit-index 8 c.loop-digit.invariant.0 (omega arith) in
     let first = digits_first c.args.digits.now c.loop-digit.digit-index c.loop-digit-test.true c.loop-digit.invariant.1 in
     search rules

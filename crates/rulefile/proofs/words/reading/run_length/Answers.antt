@@ -5,8 +5,8 @@ use Rattle.rulefile.proofs.words.reading.run_length.Goals as goal
 pub loop-n-preserved : goal.loop-n-preserved
 loop-n-preserved c = search (rules, run_more)
 
-pub returns-else-not-is-gap : goal.returns-else-not-is-gap
-returns-else-not-is-gap c = search (rules, run_stop)
+pub returns-else-not-is_gap : goal.returns-else-not-is_gap
+returns-else-not-is_gap c = search (rules, run_stop)
 
 pub returns-after-loop-n : goal.returns-after-loop-n
 returns-after-loop-n c = search (rules, run_end)

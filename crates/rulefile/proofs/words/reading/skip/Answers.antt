@@ -14,5 +14,5 @@ loop-cursor-preserved c =
 pub returns-after-loop-cursor : goal.returns-after-loop-cursor
 returns-after-loop-cursor c = search (rules, gap_end)
 
-pub returns-in-default : goal.returns-in-default
-returns-in-default c = search (rules, gap_stop, passed_stop)
+pub returns-in_default : goal.returns-in_default
+returns-in_default c = search (rules, gap_stop, passed_stop)
