@@ -1,5 +1,5 @@
 #!/usr/bin/env python3
-"""Spells the repository's own definitions and lemmas in snake case: by-weight becomes by_weight.
+"""Spells the repository's own definitions and lemmas in snake case: by-weight becomes by_weight, and the type None-pass NonePass.
 
 usage: python3 tools/respell.py [FOLDER]     the top of the repository; this one where none is given
 
@@ -39,6 +39,8 @@ def is_own(path):
 
 
 def snake(name):
+    if name[:1].isupper():
+        return re.sub(r"-(.)", lambda m: m.group(1).upper(), name)
     if re.fullmatch(r"[a-z][A-Za-z0-9]*[A-Z][A-Za-z0-9]*", name):
         name = re.sub(r"([A-Z])", lambda m: "_" + m.group(1).lower(), name)
     return name.replace("-", "_")

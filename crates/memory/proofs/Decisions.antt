@@ -7,7 +7,7 @@ use Rattle.rules.specs.Values.{value_in}
 use Rattle.rules.specs.declared.literal.Value.TheVariants.{True, False, Unassigned}
 use Rattle.rules.proofs.Literals.{bounds_range}
 use Rattle.theory.specs.Trail.{Trail, on, free, word}
-use Rattle.theory.specs.Look.{None_pass}
+use Rattle.theory.specs.Look.{NonePass}
 use Rattle.theory.specs.Search.{missing}
 use Rattle.theory.proofs.Compute.{free_outside}
 use Rattle.theory.proofs.Invariant.{first_passes}
@@ -56,7 +56,7 @@ pub all_assigned : (n : ℕ) (t : Trail) → ((i : ℕ) → i < n + 1 → free n
 all_assigned n t h = complete tt (λ v. elim (cases_lt v (n + 1)) [ inl z ↦ h v z | inr z ↦ free_outside n t v (λ a b. omega arith) ])
 
 -- where the list has none, it is as without a list
-pub none_preferred : (n : ℕ) (t : Trail) (preferences : List ℤ) → None_pass (free n t) preferences → (o : Option ℤ) → Decides n t [] o → Decides n t preferences o
+pub none_preferred : (n : ℕ) (t : Trail) (preferences : List ℤ) → NonePass (free n t) preferences → (o : Option ℤ) → Decides n t [] o → Decides n t preferences o
 none_preferred n t preferences h o (preferred l f) = absurd (first_none (free n t) f tt)
 none_preferred n t preferences h o (lowest v _ f b) = lowest v h f b
 none_preferred n t preferences h o (complete _ f) = complete h f

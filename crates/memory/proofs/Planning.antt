@@ -6,7 +6,7 @@ use Rattle.rules.specs.Values.{value_in}
 use Rattle.rules.specs.declared.literal.Value.TheVariants.{True, False, Unassigned}
 use Rattle.theory.specs.Trail.{Entry, Entry.assumed, Entry.decided, on, free, assumed_literals}
 use Rattle.theory.specs.Chunks.{in_chunk, touches}
-use Rattle.theory.specs.Look.{Position, First, None_pass, Look}
+use Rattle.theory.specs.Look.{Position, First, NonePass, Look}
 use Rattle.theory.specs.Conflict.{Touched, Chosen}
 use Rattle.theory.specs.Search.{Guide, Verdict.model, Verdict.refuted, missing, Ends, Ends.contradicts, Ends.denies, Ends.completes, Kind, Kind.assuming, Kind.deciding, placed, Step, Step.conflict, Step.assume, Step.prefer, Step.lowest as low}
 use Rattle.theory.proofs.Trails.{parts_free}
@@ -118,12 +118,12 @@ module _ (n L a len f : ℕ) (ws : List ℤ) (so : Sound n L a len f ws) (i : �
         )
 
 module _ (n L : ℕ) (g : Guide) (p : Position) (lk : Look n g.source p None) where
-  pub decision_step : (l : ℤ) → None_pass (missing p.trail) p.assumptions → (o : Option ℤ) → o ≡ Some l → Decides n p.trail g.preferences o → Step n L g p deciding 0 (placed p (decided l))
+  pub decision_step : (l : ℤ) → NonePass (missing p.trail) p.assumptions → (o : Option ℤ) → o ≡ Some l → Decides n p.trail g.preferences o → Step n L g p deciding 0 (placed p (decided l))
   decision_step l all o e (preferred m f) = let q : m ≡ l = cc in subst (λ x. Step n L g p deciding 0 (placed p (decided x))) q (prefer m lk all f)
   decision_step l all o e (lowest v nf fr least) = let q : pos v ≡ l = cc in subst (λ x. Step n L g p deciding 0 (placed p (decided x))) q (low v lk all nf fr least)
   decision_step l all o e (complete nf full) = let z : ◌≡◌ {A = ℕ} 0 1 = cc in absurd (omega arith)
 
-  pub completion : None_pass (missing p.trail) p.assumptions → (o : Option ℤ) → o ≡ None → Decides n p.trail g.preferences o → Ends n g.source p model []
+  pub completion : NonePass (missing p.trail) p.assumptions → (o : Option ℤ) → o ≡ None → Decides n p.trail g.preferences o → Ends n g.source p model []
   completion all o e (preferred m f) = let z : ◌≡◌ {A = ℕ} 0 1 = cc in absurd (omega arith)
   completion all o e (lowest v nf fr least) = let z : ◌≡◌ {A = ℕ} 0 1 = cc in absurd (omega arith)
   completion all o e (complete nf full) = completes lk all full

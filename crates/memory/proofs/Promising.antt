@@ -10,23 +10,23 @@ use Rattle.theory.proofs.Theorem.{promise_kept}
 use Rattle.memory.specs.Sessions.{Lived, Promised}
 
 -- where each run was given a lawful source, so was each of those since the latest begin that looked
-abbrev All_lawful : List Grant → Type 0
-All_lawful gs = All (λ g. Lawful g.guide.source) gs
+abbrev AllLawful : List Grant → Type 0
+AllLawful gs = All (λ g. Lawful g.guide.source) gs
 
-runs_lawful : (v : View) (gs : List Grant) → of_run v (λ g. Lawful g.guide.source) → All_lawful gs → All_lawful (runs_after v gs)
+runs_lawful : (v : View) (gs : List Grant) → of_run v (λ g. Lawful g.guide.source) → AllLawful gs → AllLawful (runs_after v gs)
 runs_lawful (joined l) gs p h = h
 runs_lawful cleared gs p h = h
 runs_lawful began gs p h = tt
 runs_lawful (ran g) gs p h = (p, h)
 runs_lawful other gs p h = h
 
-granted_lawful : (h : List Event) → EachRun (λ g before. Lawful g.guide.source) h → All_lawful (granted_runs h)
+granted_lawful : (h : List Event) → EachRun (λ g before. Lawful g.guide.source) h → AllLawful (granted_runs h)
 granted_lawful [] p = tt
 granted_lawful (e ∷ h) p = runs_lawful (view e) (granted_runs h) p.0 (granted_lawful h p.1)
 
-looking_lawful : (gs : List Grant) → All_lawful gs → All_lawful (looking gs)
+looking_lawful : (gs : List Grant) → AllLawful gs → AllLawful (looking gs)
 looking_lawful [] h = tt
-looking_lawful (g ∷ gs) h = cond_both (ended (latest_verdict gs)) (looking gs) (g ∷ looking gs) All_lawful (λ _. looking_lawful gs h.1) (λ _. (h.0, looking_lawful gs h.1))
+looking_lawful (g ∷ gs) h = cond_both (ended (latest_verdict gs)) (looking gs) (g ∷ looking gs) AllLawful (λ _. looking_lawful gs h.1) (λ _. (h.0, looking_lawful gs h.1))
 
 pub lawful_runs : (h : List Event) → EachRun (λ g before. Lawful g.guide.source) h → LawfulRuns (granted_runs h)
 lawful_runs h p = looking_lawful (granted_runs h) (granted_lawful h p)

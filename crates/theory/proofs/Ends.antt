@@ -1,5 +1,6 @@
 -- The ends of a search are right, and a run keeps what a search keeps.
 use Rattle.std.proofs.Common.{◌≡◌, ℕ, ◌+◌, ◌≤◌, Bool, true, false, List, [], ◌∷◌, ℤ, neg_ℤ, None, All, filter, sym, refl, ap, ◌∙◌, arith}
+use Rattle.std.proofs.lemmas.List.Elements.{All-cons, All-head, All-tail}
 use mathlib.Core.Bool.{false≢true}
 use Rattle.std.proofs.lemmas.Bool.{not-false}
 use Rattle.rules.specs.Literals.{in_range, has}
@@ -83,9 +84,11 @@ module _ (n L : ℕ) (m : Meaning) (p : Position) (law : LawfulAt n m) (o : Orde
       let d = no_decision n L p o a fi in
       let z : level p.trail (neg_ℤ a) ≡ 0 = let b = level_most p.trail (neg_ℤ a) in omega arith in
       let r = all_has (λ x. in_range n x ≡ true) p.assumptions o.ranged a i in
-      refuted_judged n m p (a ∷ filter test (assumed_literals p.trail)) (i, named_among test) (λ bs f.
-      makes_one bs a (range_bounds n a r).0 f.2.0
-      (level_0_true (Admitted n m) n bs (f.0, f.1) p.trail o.formed s.reasons (neg_ℤ a) h z (made test bs f.2.1)))
+      let others = filter test (assumed_literals p.trail) in
+      refuted_judged n m p (a ∷ others) (All-cons (λ l. has p.assumptions l ≡ true) a others i (named_among test)) (λ bs f.
+      let holds : ℤ → Type 0 = λ l. makes bs l ≡ true in
+      makes_one bs a (range_bounds n a r).0 (All-head holds a others f.2)
+      (level_0_true (Admitted n m) n bs (f.0, f.1) p.trail o.formed s.reasons (neg_ℤ a) h z (made test bs (All-tail holds a others f.2))))
   ends_judged (completes lk al c) = model_judged n m p (
     assignment_length n (on p.trail),
     ap m.admits (sym (valuation_assignment n p.trail o.formed))

@@ -1,7 +1,7 @@
 -- What holds of every state that a list of calls leads to.
 use Rattle.std.proofs.Common.{◌≡◌, ℕ, suc, ◌+◌, ◌*◌, ◌^◌, ◌<◌, ◌≤◌, Bool, true, false, cond, List, [], ◌∷◌, ◌++◌, length, ℤ, All, sym, refl, ap, ◌∙◌, subst, inl, arith}
 use mathlib.Core.Bool.{false≢true}
-use Rattle.std.proofs.lemmas.List.Elements.{All-push, All-weaker}
+use Rattle.std.proofs.lemmas.List.Elements.{All-nil, All-head, All-tail, All-push, All-weaker}
 use Rattle.std.proofs.lemmas.List.Sums.{sum_by-cons}
 use Rattle.std.proofs.lemmas.Bool.{cond-false}
 use Rattle.rules.specs.Literals.{in_range}
@@ -26,11 +26,11 @@ looking_before P g gs h = by (ended (latest_verdict gs)) h
   where
     by : (b : Bool) → All P (cond b (looking gs) (g ∷ looking gs)) → All P (looking gs)
     by true k = k
-    by false k = k.1
+    by false k = All-tail P g (looking gs) k
 
 -- and holds of that run itself if the search had not ended
 pub looking_now : (P : Grant → Type 0) (g : Grant) (gs : List Grant) → ended (latest_verdict gs) ≡ false → All P (looking (g ∷ gs)) → P g
-looking_now P g gs e h = let k : All P (g ∷ looking gs) = subst (All P) (cond-false (ended (latest_verdict gs)) (looking gs) (g ∷ looking gs) e) h in k.0
+looking_now P g gs e h = let k : All P (g ∷ looking gs) = subst (All P) (cond-false (ended (latest_verdict gs)) (looking gs) (g ∷ looking gs) e) h in All-head P g (looking gs) k
 
 source_lawful : (n : ℕ) (gs : List Grant) (m : Meaning) → OneSource n gs m → LawfulRuns gs
 source_lawful n gs m one = All-weaker (λ g. g.guide.source ≡ m) (λ g. Lawful g.guide.source) (λ g e. subst Lawful (sym e) one.lawful) (looking gs) one.unchanged
@@ -69,7 +69,7 @@ kept_bounded n L gs assumptions q k law =
     rw (bound_is n L) (omega arith)
 
 pub begun_orderly : (n L : ℕ) (assumptions : List ℤ) → InRange n assumptions → Orderly n L (begun assumptions).position
-begun_orderly n L assumptions r = record { formed = tt; few = omega arith; ranged = r; slots_ranged = tt; early = inl refl; rooted = λ x h. absurd (false≢true h) }
+begun_orderly n L assumptions r = record { formed = tt; few = omega arith; ranged = r; slots_ranged = All-nil (InRange n); early = inl refl; rooted = λ x h. absurd (false≢true h) }
 
 begun_kept : (n L : ℕ) (assumptions : List ℤ) → InRange n assumptions → Kept n L [] assumptions (begun assumptions)
 begun_kept n L assumptions r = record {
@@ -78,7 +78,7 @@ begun_kept n L assumptions r = record {
   gave = refl;
   placed = refl;
   orderly = λ _. (begun_orderly n L assumptions r, omega arith);
-  judged = λ m _. (record { reasons = tt; slots = tt }, open_judged n m assumptions (begun assumptions) refl);
+  judged = λ m _. (record { reasons = tt; slots = All-nil _ }, open_judged n m assumptions (begun assumptions) refl);
 }
 
 -- a granted run
@@ -135,7 +135,7 @@ next_kept : (n L : ℕ) (gs : List Grant) (assumptions : List ℤ) {s : State} {
 next_kept n L gs st (assumes {ls} l r f) k = (All-push (λ x. in_range n x ≡ true) ls l k.0 r, ap (λ ks. ks ++ (l ∷ [])) k.1, k.2)
 next_kept n L gs st (assumes_outside l r) k = k
 next_kept n L gs st (assumes_full l r f) k = k
-next_kept n L gs st clears k = (tt, refl, k.2)
+next_kept n L gs st clears k = (All-nil (λ l. in_range n l ≡ true), refl, k.2)
 next_kept n L gs st (begins {ls}) k = subst (λ ks. Kept n L [] ks (begun ls)) k.1 (begun_kept n L ls k.0)
 next_kept n L gs st closes k = k.2
 next_kept n L gs st (runs limit g scratch r count f (again {q = q} e)) k = again_kept n L gs st q q (record { limit = limit; guide = g; report = r }) count k refl refl (again e)
@@ -153,7 +153,8 @@ next_kept n L gs st (names_outside l a b) k = k
 next_kept n L gs st (reopens {q}) k = (k.ranged, k.began, kept_bounded n L gs st q k)
 
 pub history_kept : (n L : ℕ) {h : List Event} {s : State} → History n L h s → KeptState n L (granted_runs h) (standing_assumptions h) s
-history_kept n L opening = (tt, refl, λ _. let a = potential_most n L (begun []).position (begun_orderly n L [] tt) in rw (bound_is n L) (omega arith))
+history_kept n L opening =
+    let none = All-nil (λ l. in_range n l ≡ true) in (none, refl, λ _. let a = potential_most n L (begun []).position (begun_orderly n L [] none) in rw (bound_is n L) (omega arith))
 history_kept n L (more {h} p x) = next_kept n L (granted_runs h) (standing_assumptions h) x (history_kept n L p)
 
 pub state_bounded : (n L : ℕ) (gs : List Grant) (assumptions : List ℤ) (s : State) → KeptState n L gs assumptions s → LawfulRuns gs → reported_steps gs < step_bound n L

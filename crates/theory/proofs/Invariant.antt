@@ -1,5 +1,6 @@
 -- What a search keeps at every position, and what the clause that a look finds is.
 use Rattle.std.proofs.Common.{◌≡◌, ℕ, zero, suc, ◌+◌, ◌*◌, ◌^◌, ◌<◌, ◌≤◌, Bool, true, ◌⊎◌, List, [], ◌∷◌, length, ℤ, pos, negsuc, neg_ℤ, Some, All, sym, refl, ◌∙◌, inl, inr, mul-le-mul_right, suc-mul, arith}
+use Rattle.std.proofs.lemmas.List.Elements.{All-head, All-tail}
 use mathlib.Core.Bool.{false≢true}
 use Rattle.std.proofs.lemmas.Bool.{cases_eq}
 use Rattle.rules.specs.Literals.{var, in_range, has}
@@ -64,8 +65,8 @@ first_passes test (here e) = e
 first_passes test (later e r) = first_passes test r
 
 first_all : {A : Type 0} (P : A → Type 0) (test : A → Bool) {xs : List A} {x : A} → First test xs x → All P xs → P x
-first_all P test (here e) h = h.0
-first_all P test (later e r) h = first_all P test r h.1
+first_all P test (here {x} {xs} e) h = All-head P x xs h
+first_all P test (later {y} {x} {xs} e r) h = first_all P test r (All-tail P y xs h)
 
 pub first_has : (test : ℤ → Bool) {xs : List ℤ} {x : ℤ} → First test xs x → has xs x ≡ true
 first_has test (here {x} {xs} e) = has_first x xs

@@ -1,9 +1,10 @@
 -- The look as a function, and that it is the look of the rules.
 use Rattle.std.proofs.Common.{◌≡◌, ℕ, Bool, false, cond, List, [], ◌∷◌, ℤ, Some, None, Option, sym, refl, ap, ◌∙◌, inl, inr, arith}
+use Rattle.std.proofs.lemmas.List.Elements.{All-nil, All-cons, All-head, All-tail}
 use Rattle.std.proofs.lemmas.Bool.{cases_Bool, cond-true, cond-false}
 use Rattle.rules.specs.Sources.{Answer, Answer.silent, Answer.tells, Meaning}
 use Rattle.theory.specs.Trail.{Trail, valuation}
-use Rattle.theory.specs.Look.{Position, First, First.here, First.later, None_pass, falsified_on, unit_on, Look, Look.told, Look.falsified_slot, Look.unit_slot, Look.no_clause}
+use Rattle.theory.specs.Look.{Position, First, First.here, First.later, NonePass, falsified_on, unit_on, Look, Look.told, Look.falsified_slot, Look.unit_slot, Look.no_clause}
 
 -- the first of a list that passes a test
 abbrev pub first_of : {A : Type 0} → (A → Bool) → List A → Option A
@@ -14,9 +15,10 @@ pub first_is : {A : Type 0} (test : A → Bool) {xs : List A} {x : A} → First 
 first_is test (here {x} {xs} e) = cond-true (test x) (Some x) (first_of test xs) e
 first_is test (later {y} {x} {xs} e r) = cond-false (test y) (Some y) (first_of test xs) e ∙ first_is test r
 
-pub none_is : {A : Type 0} (test : A → Bool) (xs : List A) → None_pass test xs → first_of test xs ≡ None
+pub none_is : {A : Type 0} (test : A → Bool) (xs : List A) → NonePass test xs → first_of test xs ≡ None
 none_is test [] h = refl
-none_is test (x ∷ xs) h = cond-false (test x) (Some x) (first_of test xs) h.0 ∙ none_is test xs h.1
+none_is {A} test (x ∷ xs) h =
+    let fails : A → Type 0 = λ y. test y ≡ false in cond-false (test x) (Some x) (first_of test xs) (All-head fails x xs h) ∙ none_is test xs (All-tail fails x xs h)
 
 pub some_none : {A : Type 0} (x : A) → Some x ≡ None → ⊥
 some_none x e = let z : ◌≡◌ {A = ℕ} 0 1 = cc in omega arith
@@ -24,21 +26,21 @@ some_none x e = let z : ◌≡◌ {A = ℕ} 0 1 = cc in omega arith
 pub first_one : {A : Type 0} (test : A → Bool) {xs : List A} {x y : A} → First test xs x → First test xs y → x ≡ y
 first_one test {xs} {x} {y} f g = let e : Some x ≡ Some y = sym (first_is test f) ∙ first_is test g in cc
 
-pub first_none : {A : Type 0} (test : A → Bool) {xs : List A} {x : A} → First test xs x → None_pass test xs → ⊥
+pub first_none : {A : Type 0} (test : A → Bool) {xs : List A} {x : A} → First test xs x → NonePass test xs → ⊥
 first_none test {xs} {x} f h = some_none x (sym (first_is test f) ∙ none_is test xs h)
 
 -- what the function finds is first, or there is none
 abbrev pub Finds : {A : Type 0} → (A → Bool) → List A → Option A → Type 0
 Finds test xs (Some x) = First test xs x
-Finds test xs None = None_pass test xs
+Finds test xs None = NonePass test xs
 
 pub first_finds : {A : Type 0} (test : A → Bool) (xs : List A) → Finds test xs (first_of test xs)
-first_finds test [] = tt
+first_finds test [] = All-nil (λ x. test x ≡ false)
 first_finds {A} test (x ∷ xs) = elim (cases_Bool (test x)) [ inl p ↦ rw p (here p) | inr p ↦ rw p (past p (first_of test xs) (first_finds test xs)) ]
   where
     past : test x ≡ false → (o : Option A) → Finds test xs o → Finds test (x ∷ xs) o
     past p (Some y) f = later p f
-    past p None f = (p, f)
+    past p None f = All-cons (λ y. test y ≡ false) x xs p f
 
 -- what a slot gives where the source is silent: the first falsified, or else the first unit one
 abbrev pub either_slot : Option (List ℤ) → Option (List ℤ) → Option (List ℤ)

@@ -1,5 +1,6 @@
 -- A well-formed trail has at most n entries.
 use Rattle.std.proofs.Common.{◌≡◌, ℕ, zero, suc, ◌+◌, ◌-◌, ◌<◌, ◌≤◌, true, false, eqb, List, [], ◌∷◌, map, length, ℤ, pos, neg_ℤ, All, sym, refl, subst, inl, inr, arith}
+use Rattle.std.proofs.lemmas.List.Elements.{All-nil, All-cons}
 use Rattle.std.specs.List.{range_with_len}
 use Rattle.std.proofs.lemmas.List.FromFn.{length-map-range_with_len}
 use Rattle.std.proofs.lemmas.List.{length-map}
@@ -39,10 +40,10 @@ has_counting a (suc n) v h k = elim (cases_eq v a) [
 ]
 
 variables_ranged : (n : ℕ) (t : Trail) → WellFormed n t → All (λ x. has (map pos (range_with_len 1 n)) x ≡ true) (variables t)
-variables_ranged n [] w = tt
+variables_ranged n [] w = All-nil (λ x. has (map pos (range_with_len 1 n)) x ≡ true)
 variables_ranged n (e ∷ t) w =
     let b = range_bounds n (literal e) (ranged w.0) in let low = b.0 in let high = b.1 in
-    (has_counting 1 n (var (literal e)) low (omega arith), variables_ranged n t w.1)
+    All-cons (λ x. has (map pos (range_with_len 1 n)) x ≡ true) (pos (var (literal e))) (variables t) (has_counting 1 n (var (literal e)) low (omega arith)) (variables_ranged n t w.1)
 
 pub length_most : (n : ℕ) (t : Trail) → WellFormed n t → length t ≤ n
 length_most n t w =

@@ -8,7 +8,7 @@ use Rattle.rules.specs.Sources.{Meaning, LawfulAt}
 use Rattle.rules.proofs.Literals.{same_true, all_has, has_all}
 use Rattle.rules.proofs.Statuses.{kept_in, unit_at}
 use Rattle.theory.specs.Trail.{Entry, Entry.assumed, Entry.decided, Entry.implied, literal, on, free, assumed_literals, Placeable}
-use Rattle.theory.specs.Look.{Position, First, None_pass, Look}
+use Rattle.theory.specs.Look.{Position, First, NonePass, Look}
 use Rattle.theory.specs.Conflict.{others_of}
 use Rattle.theory.specs.Search.{missing, placed}
 use Rattle.theory.proofs.Trails.{ranged, fresh, parts_free, apart, on_below}
@@ -21,7 +21,7 @@ pub record Advances (n L : ℕ) (p p' : Position) : Type 0 where
   pub orderly : Orderly n L p'
   pub rises : potential n p < potential n p'
 
-pub none_passes : (test : ℤ → Bool) (xs : List ℤ) → None_pass test xs → (x : ℤ) → has xs x ≡ true → test x ≡ false
+pub none_passes : (test : ℤ → Bool) (xs : List ℤ) → NonePass test xs → (x : ℤ) → has xs x ≡ true → test x ≡ false
 none_passes test xs h x e = all_has (λ y. test y ≡ false) xs h x e
 
 module _ (n L : ℕ) (p : Position) (o : Orderly n L p) where
@@ -54,7 +54,7 @@ module _ (n L : ℕ) (p : Position) (o : Orderly n L p) where
       (λ x h. elim (or_cases (same x a) (has (assumed_literals p.trail) x) h)
       [ inl s ↦ subst (λ y. has p.assumptions y ≡ true) (sym (same_true x a s)) m.1 | inr s ↦ o.rooted x s ])
 
-  pub decide_advances : (l : ℤ) → None_pass (missing p.trail) p.assumptions → free n p.trail l ≡ true → Advances n L p (placed p (decided l))
+  pub decide_advances : (l : ℤ) → NonePass (missing p.trail) p.assumptions → free n p.trail l ≡ true → Advances n L p (placed p (decided l))
   decide_advances l al f =
       let pl : Placeable n p.trail (decided l) = record { unassigned = f; grounded = tt } in
       let now : All (Settled p.trail) p.assumptions = elim o.early [

@@ -1,5 +1,6 @@
 -- The known runs, by computing them.
 use Rattle.std.proofs.Common.{◌≡◌, ℕ, Bool, true, List, [], ◌∷◌, map, ℤ, All, refl, ap, subst, arith}
+use Rattle.std.proofs.lemmas.List.Elements.{All-nil, All-cons}
 use Rattle.std.specs.List.{list_all}
 use Rattle.std.proofs.lemmas.Bool.{leb-true, leb-false, le-leb}
 use Rattle.rules.specs.Literals.{in_range}
@@ -108,11 +109,11 @@ follows c e =
     )
 
 all_follow : (cs : List Case) → map result cs ≡ map expected cs → All Follows cs
-all_follow [] e = tt
+all_follow [] e = All-nil Follows
 all_follow (c ∷ cs) e =
     let here : result c ≡ expected c = cc in
     let rest : map result cs ≡ map expected cs = cc in
-    (follows c here, all_follow cs rest)
+    All-cons Follows c cs (follows c here) (all_follow cs rest)
 
 pub known_runs : KnownRuns
 known_runs = all_follow known_cases results

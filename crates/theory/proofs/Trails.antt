@@ -1,5 +1,6 @@
 -- What stands on a trail, and what a fresh entry on top leaves as it was.
 use Rattle.std.proofs.Common.{◌≡◌, ℕ, ◌<◌, ◌≤◌, Bool, true, false, not, ◌&&◌, ◌⊎◌, List, [], ◌∷◌, length, ℤ, neg_ℤ, All, sym, refl, ap, ◌∙◌, subst, inl, inr, arith}
+use Rattle.std.proofs.lemmas.List.Elements.{All-head, All-tail}
 use mathlib.Core.Bool.{false≢true}
 use lib.IntN.{neg_ℤ-neg_ℤ}
 use Rattle.std.proofs.lemmas.Bool.{cond_both, or_cases, or_from, or_left, or_right, both_ways, cases_Bool, and_parts, and_from, not-true, not_from_false, and_cases, not-false}
@@ -18,7 +19,8 @@ AllFalse t C = All (λ k. on t (neg_ℤ k) ≡ true) C
 
 pub meets_cong : (f g : ℤ → Bool) (C : List ℤ) → All (λ k. f (neg_ℤ k) ≡ g (neg_ℤ k)) C → meets f C ≡ meets g C
 meets_cong f g [] h = refl
-meets_cong f g (k ∷ C) h = rw (h.0, meets_cong f g C h.1)
+meets_cong f g (k ∷ C) h =
+    let alike : ℤ → Type 0 = λ x. f (neg_ℤ x) ≡ g (neg_ℤ x) in rw (All-head alike k C h, meets_cong f g C (All-tail alike k C h))
 
 pub meets_none : (f : ℤ → Bool) → ((x : ℤ) → f x ≡ false) → (C : List ℤ) → meets f C ≡ false
 meets_none f h [] = refl

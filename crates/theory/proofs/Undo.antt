@@ -1,5 +1,6 @@
 -- Undoing a chunk, by the rank of its decision: what goes, what is kept, and that the rest is well formed.
 use Rattle.std.proofs.Common.{◌≡◌, ℕ, true, false, List, [], ◌∷◌, ℤ, neg_ℤ, refl, subst, inl, inr}
+use Rattle.std.proofs.lemmas.List.Elements.{All-nil, All-cons, All-head, All-tail}
 use mathlib.Core.Bool.{false≢true}
 use lib.IntN.{neg_ℤ-neg_ℤ}
 use Rattle.std.proofs.lemmas.Bool.{cond_both, or_cases, or_parts, or_from, or_left, both_ways, cases_Bool}
@@ -47,10 +48,11 @@ undo_keeps j (e ∷ t) x h m = elim (cases_Bool (same x (literal e))) [
 
 -- a clause that does not meet the chunk stays false
 false_keeps : (j : ℕ) (t : Trail) (C : List ℤ) → AllFalse t C → meets (in_rank j t) C ≡ false → AllFalse (without_rank j t) C
-false_keeps j t [] h b = tt
+false_keeps j t [] h b = All-nil (λ k. on (without_rank j t) (neg_ℤ k) ≡ true)
 false_keeps j t (k ∷ C) h b =
     let p = or_parts (in_rank j t (neg_ℤ k)) (meets (in_rank j t) C) b in
-    (undo_keeps j t (neg_ℤ k) h.0 p.0, false_keeps j t C h.1 p.1)
+    let falls : ℤ → Type 0 = λ x. on t (neg_ℤ x) ≡ true in
+    All-cons (λ x. on (without_rank j t) (neg_ℤ x) ≡ true) k C (undo_keeps j t (neg_ℤ k) (All-head falls k C h) p.0) (false_keeps j t C (All-tail falls k C h) p.1)
 
 grounded_keeps : (j : ℕ) (t : Trail) (e : Entry) → Grounded t e → joins_rank j e (decisions t) (in_rank j t) ≡ false → Grounded (without_rank j t) e
 grounded_keeps j t (assumed l) h b = tt

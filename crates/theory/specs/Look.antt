@@ -16,8 +16,8 @@ pub data First {A : Type 0} (test : A → Bool) : List A → A → Type 0 where
   later : {y : A} {x : A} {xs : List A} → test y ≡ false → First test xs x → First test (y ∷ xs) x
 
 -- none of a list passes a test
-abbrev pub None_pass : {A : Type 0} → (A → Bool) → List A → Type 0
-None_pass test xs = All (λ x. test x ≡ false) xs
+abbrev pub NonePass : {A : Type 0} → (A → Bool) → List A → Type 0
+NonePass test xs = All (λ x. test x ≡ false) xs
 
 abbrev pub falsified_on : Trail → List ℤ → Bool
 falsified_on t C = is_falsified (status (on t) C)
@@ -31,6 +31,6 @@ pub data Look (n : ℕ) (m : Meaning) (p : Position) : Option (List ℤ) → Typ
   falsified_slot : {C : List ℤ} → m.answer (valuation n p.trail) ≡ silent
       → First (falsified_on p.trail) p.slots C → Look n m p (Some C)
   unit_slot : {C : List ℤ} → m.answer (valuation n p.trail) ≡ silent
-      → None_pass (falsified_on p.trail) p.slots → First (unit_on p.trail) p.slots C → Look n m p (Some C)
+      → NonePass (falsified_on p.trail) p.slots → First (unit_on p.trail) p.slots C → Look n m p (Some C)
   no_clause : m.answer (valuation n p.trail) ≡ silent
-      → None_pass (falsified_on p.trail) p.slots → None_pass (unit_on p.trail) p.slots → Look n m p None
+      → NonePass (falsified_on p.trail) p.slots → NonePass (unit_on p.trail) p.slots → Look n m p None

@@ -6,7 +6,7 @@ use Rattle.rules.specs.Sources.{Meaning}
 use Rattle.theory.specs.Weighing.{Weighing}
 use Rattle.theory.specs.Trail.{Entry, Entry.assumed, Entry.decided, Entry.implied, Trail, on, free, Complete, assumed_literals, decided_literals}
 use Rattle.theory.specs.Chunks.{in_chunk, touches, chunk}
-use Rattle.theory.specs.Look.{Position, First, None_pass, Look}
+use Rattle.theory.specs.Look.{Position, First, NonePass, Look}
 use Rattle.theory.specs.Conflict.{Chosen, Analysed, others_of, repaired}
 
 -- What a run is given: the source to question, the preference list, and how chunks compare by weight.
@@ -43,7 +43,7 @@ pub data Ends (n : ℕ) (m : Meaning) (p : Position) : Verdict → List ℤ → 
   denies : (a : ℤ) → Look n m p None → First (missing p.trail) p.assumptions a → on p.trail (neg_ℤ a) ≡ true
       → Ends n m p refuted (a ∷ filter (λ r. in_chunk r p.trail (neg_ℤ a)) (assumed_literals p.trail))
   -- no clause, all assumptions are true, and no variable is unassigned
-  completes : Look n m p None → None_pass (missing p.trail) p.assumptions → Complete n p.trail → Ends n m p model []
+  completes : Look n m p None → NonePass (missing p.trail) p.assumptions → Complete n p.trail → Ends n m p model []
 
 pub data Kind : Type 0 where
   assuming : Kind
@@ -69,9 +69,9 @@ pub data Step (n L : ℕ) (g : Guide) (p : Position) : Kind → ℕ → Position
   assume : (a : ℤ) → Look n g.source p None → First (missing p.trail) p.assumptions a → on p.trail (neg_ℤ a) ≡ false
       → Step n L g p assuming 0 (placed p (assumed a))
   -- no clause, and all assumptions are true: the list's first literal whose variable is in 1 to n and unassigned
-  prefer : (l : ℤ) → Look n g.source p None → None_pass (missing p.trail) p.assumptions → First (free n p.trail) g.preferences l
+  prefer : (l : ℤ) → Look n g.source p None → NonePass (missing p.trail) p.assumptions → First (free n p.trail) g.preferences l
       → Step n L g p deciding 0 (placed p (decided l))
   -- the list has none: the lowest unassigned variable, made true
-  lowest : (v : ℕ) → Look n g.source p None → None_pass (missing p.trail) p.assumptions → None_pass (free n p.trail) g.preferences
+  lowest : (v : ℕ) → Look n g.source p None → NonePass (missing p.trail) p.assumptions → NonePass (free n p.trail) g.preferences
       → free n p.trail (pos v) ≡ true → ((i : ℕ) → i < v → free n p.trail (pos i) ≡ false)
       → Step n L g p deciding 0 (placed p (decided (pos v)))
