@@ -1,5 +1,6 @@
 -- What the words are after the source was questioned on a part of them.
 use Rattle.std.proofs.Common.{◌≡◌, ℕ, zero, suc, ◌+◌, ◌-◌, ◌*◌, ◌<◌, ◌≤◌, true, false, eqb, List, [], ◌∷◌, ◌++◌, map, length, get_or, take, drop, ℤ, pos, neg_ℤ, All, sym, refl, ap, ◌∙◌, subst, inl, inr, arith, length-append, length-drop, length-take-le, get_or-drop, get_or-take, take-take, get_or-append-add}
+use Rattle.std.proofs.lemmas.List.Elements.{All-head, All-tail}
 use borrow.Rule.Slice.PartMut.{put_mid, mid_of, post_of, put_same}
 use lib.ListN.{get_or-append}
 use Rattle.std.proofs.lemmas.Slice.{drop-put_mid}
@@ -33,10 +34,10 @@ once_formed : (n : ℕ) (C : List ℤ) → All (λ l. in_range n l ≡ true) C �
 once_formed n [] r o = tt
 once_formed n (l ∷ C) r o = (
   record {
-    unassigned = parts_free n (map decided C) l r.0 (on_names C l o.0) (on_names C (neg_ℤ l) (subst (λ v. names C v ≡ false) (sym (var_neg l)) o.0));
+    unassigned = parts_free n (map decided C) l (All-head (λ k. in_range n k ≡ true) l C r) (on_names C l o.0) (on_names C (neg_ℤ l) (subst (λ v. names C v ≡ false) (sym (var_neg l)) o.0));
     grounded = tt;
   },
-  once_formed n C r.1 o.1,
+  once_formed n C (All-tail (λ k. in_range n k ≡ true) l C r) o.1,
 )
 
 once_short : (n : ℕ) (C : List ℤ) → All (λ l. in_range n l ≡ true) C → Once C → length C ≤ n

@@ -1,5 +1,6 @@
 -- Sets of false literals by their variables, and how many of them are marked.
 use Rattle.std.proofs.Common.{◌≡◌, ℕ, ◌+◌, Bool, true, false, not, ◌&&◌, ◌||◌, eqb, ◌≢◌, List, [], ◌∷◌, ◌++◌, ℤ, neg_ℤ, sym, refl, ap, ◌∙◌, subst, inl, inr, arith}
+use Rattle.std.proofs.lemmas.List.Elements.{All-head, All-tail}
 use mathlib.Core.Path.{fun_ext}
 use mathlib.Core.Bool.{false≢true}
 use lib.IntN.{neg_ℤ-neg_ℤ}
@@ -84,7 +85,8 @@ module _ (n : ℕ) (T : Trail) (w : WellFormed n T) where
 
   names_has : (a : ℤ) → on T (neg_ℤ a) ≡ true → (C : List ℤ) → AllFalse T C → names_index C (index_of a) ≡ has C a
   names_has a o [] f = refl
-  names_has a o (m ∷ C) f = rw (names_has a o C f.1, index_is_same a m o f.0)
+  names_has a o (m ∷ C) f =
+      let falls : ℤ → Type 0 = λ k. on T (neg_ℤ k) ≡ true in rw (names_has a o C (All-tail falls m C f), index_is_same a m o (All-head falls m C f))
 
   has_not : (C : List ℤ) → AllFalse T C → (a : ℤ) → on T (neg_ℤ a) ≡ false → has C a ≡ false
   has_not C f a o = elim (cases_Bool (has C a)) [ inr e ↦ e | inl e ↦ absurd (both_ways (on T (neg_ℤ a)) o (all_has (λ m. on T (neg_ℤ m) ≡ true) C f a e)) ]

@@ -1,5 +1,6 @@
 -- The first assumption that is not true, and which literal is decided next.
 use Rattle.std.proofs.Common.{◌≡◌, ℕ, zero, suc, ◌+◌, ◌<◌, ◌≤◌, Bool, true, false, cond, not, eqb, List, [], ◌∷◌, ℤ, pos, negsuc, neg_ℤ, nat_abs, Some, None, Option, sym, refl, ap, ◌∙◌, subst, inl, inr, add-one, arith}
+use Rattle.std.proofs.lemmas.List.Elements.{All-nil}
 use mathlib.Core.Bool.{and_comm}
 use Rattle.std.proofs.lemmas.Bool.{cases_Bool, cases_lt, cond-true, not_from_false}
 use Rattle.rules.specs.Literals.{var, in_range}
@@ -53,11 +54,11 @@ module _ (n L len : ℕ) (ws : List ℤ) (st : Coherent n L len ws) where
 
 -- where no variable of 1 to n is free, every variable has a value
 pub all_assigned : (n : ℕ) (t : Trail) → ((i : ℕ) → i < n + 1 → free n t (pos i) ≡ false) → Decides n t [] None
-all_assigned n t h = complete tt (λ v. elim (cases_lt v (n + 1)) [ inl z ↦ h v z | inr z ↦ free_outside n t v (λ a b. omega arith) ])
+all_assigned n t h = complete (All-nil (λ l. free n t l ≡ false)) (λ v. elim (cases_lt v (n + 1)) [ inl z ↦ h v z | inr z ↦ free_outside n t v (λ a b. omega arith) ])
 
 -- where the list has none, it is as without a list
 pub none_preferred : (n : ℕ) (t : Trail) (preferences : List ℤ) → NonePass (free n t) preferences → (o : Option ℤ) → Decides n t [] o → Decides n t preferences o
-none_preferred n t preferences h o (preferred l f) = absurd (first_none (free n t) f tt)
+none_preferred n t preferences h o (preferred l f) = absurd (first_none (free n t) f (All-nil (λ k. free n t k ≡ false)))
 none_preferred n t preferences h o (lowest v _ f b) = lowest v h f b
 none_preferred n t preferences h o (complete _ f) = complete h f
 

@@ -1,5 +1,6 @@
 -- What follows from the rule of a call: the promise for every list of calls that led to it.
 use Rattle.std.proofs.Common.{◌≡◌, ℕ, true, false, cond, List, [], ◌∷◌, All}
+use Rattle.std.proofs.lemmas.List.Elements.{All-nil, All-cons, All-head, All-tail}
 use Rattle.std.proofs.lemmas.Bool.{cond_both}
 use Rattle.rules.specs.Sources.{Lawful}
 use Rattle.theory.specs.Search.{ended}
@@ -16,17 +17,20 @@ AllLawful gs = All (λ g. Lawful g.guide.source) gs
 runs_lawful : (v : View) (gs : List Grant) → of_run v (λ g. Lawful g.guide.source) → AllLawful gs → AllLawful (runs_after v gs)
 runs_lawful (joined l) gs p h = h
 runs_lawful cleared gs p h = h
-runs_lawful began gs p h = tt
-runs_lawful (ran g) gs p h = (p, h)
+runs_lawful began gs p h = All-nil (λ g. Lawful g.guide.source)
+runs_lawful (ran g) gs p h = All-cons (λ r. Lawful r.guide.source) g gs p h
 runs_lawful other gs p h = h
 
 granted_lawful : (h : List Event) → EachRun (λ g before. Lawful g.guide.source) h → AllLawful (granted_runs h)
-granted_lawful [] p = tt
+granted_lawful [] p = All-nil (λ g. Lawful g.guide.source)
 granted_lawful (e ∷ h) p = runs_lawful (view e) (granted_runs h) p.0 (granted_lawful h p.1)
 
 looking_lawful : (gs : List Grant) → AllLawful gs → AllLawful (looking gs)
-looking_lawful [] h = tt
-looking_lawful (g ∷ gs) h = cond_both (ended (latest_verdict gs)) (looking gs) (g ∷ looking gs) AllLawful (λ _. looking_lawful gs h.1) (λ _. (h.0, looking_lawful gs h.1))
+looking_lawful [] h = All-nil (λ g. Lawful g.guide.source)
+looking_lawful (g ∷ gs) h =
+    let lawful : Grant → Type 0 = λ r. Lawful r.guide.source in
+    let rest = looking_lawful gs (All-tail lawful g gs h) in
+    cond_both (ended (latest_verdict gs)) (looking gs) (g ∷ looking gs) AllLawful (λ _. rest) (λ _. All-cons lawful g (looking gs) (All-head lawful g gs h) rest)
 
 pub lawful_runs : (h : List Event) → EachRun (λ g before. Lawful g.guide.source) h → LawfulRuns (granted_runs h)
 lawful_runs h p = looking_lawful (granted_runs h) (granted_lawful h p)

@@ -1,5 +1,5 @@
 -- That words stand for a search is a proposition: it can be taken out of a truncation.
-use Rattle.std.proofs.Common.{◌≡◌, ℕ, true, List, [], ◌∷◌, ℤ, neg_ℤ, Some, None, All, Option}
+use Rattle.std.proofs.Common.{◌≡◌, ℕ, true, List, [], ◌∷◌, ℤ, neg_ℤ, Some, None, All, Option, get_or}
 use mathlib.Core.Bool.{Bool-set}
 use mathlib.Core.HLevel.{Π_prop, ×_prop, Unit-prop}
 use mathlib.Core.Logic.{∥∥₁_elim}
@@ -13,8 +13,7 @@ use Rattle.memory.specs.declared.layout.Layout.{Layout}
 use Rattle.memory.specs.declared.layout.Extent.{Extent}
 
 all_prop : (P : ℤ → Type 0) → ((x : ℤ) → IsProp (P x)) → (xs : List ℤ) → IsProp (All P xs)
-all_prop P h [] = Unit-prop
-all_prop P h (x ∷ xs) = ×_prop (h x) (all_prop P h xs)
+all_prop P h xs = Π_prop (λ k. Π_prop (λ d. Π_prop (λ l. h (get_or xs k d))))
 
 grounded_prop : (t : Trail) (e : Entry) → IsProp (Grounded t e)
 grounded_prop t (assumed l) = Unit-prop

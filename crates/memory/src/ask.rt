@@ -11,10 +11,10 @@ use rules::source::{Source, Told};
 
 /// Questions the source on the values. A told clause is then in hand: it stands in the words behind them.
 pub(crate) fn ask<S: Source>(source: &S, words: &mut [i32], layout: Layout, len: usize) -> Told
-    requires count { (meaning source.now).count ≡ layout.variables }
-    requires lawful { Lawful (meaning source.now) }
+    requires count { (S.meaning source.now).count ≡ layout.variables }
+    requires lawful { Lawful (S.meaning source.now) }
     requires coherent { Coherent layout.variables layout.slots len words.old }
-    ensures told { answer_in_hand layout.variables words.new result ≡ (meaning source.now).answer (valuation layout.variables (trail_of layout.variables len words.old)) }
+    ensures told { answer_in_hand layout.variables words.new result ≡ (S.meaning source.now).answer (valuation layout.variables (trail_of layout.variables len words.old)) }
     ensures few { told_count result ≤ layout.variables }
     ensures ranged { InRange layout.variables words.new (told_count result) }
     ensures outside { Outside (4 * layout.variables) layout.variables words.old words.new }

@@ -66,7 +66,7 @@ fn lightest<W: Weigher>(
     requires few { k ≤ layout.variables }
     requires falsified { status (on (trail_of layout.variables len words.old)) (clause_of layout.variables k words.old) ≡ falsified }
     ensures chosen { decision_at layout.variables words.old result
-        ≡ first_least (lighter (by_total Weight-as-Order.at_most Weight-as-Scale.zero Weight-as-Scale.plus (W.Weigher.weight weigher.now)) (trail_of layout.variables len words.old))
+        ≡ first_least (lighter (by_total W.Weight.at_most W.Weight.zero W.Weight.plus (W.weight weigher.now)) (trail_of layout.variables len words.old))
         (touched_decisions (trail_of layout.variables len words.old) (clause_of layout.variables k words.old)) }
     ensures within { PlaceWithin len result }
     ensures outside { Outside (5 * layout.variables) layout.variables words.old words.new }
@@ -100,9 +100,9 @@ pub(crate) fn choose<W: Weigher>(
     requires few { k ≤ layout.variables }
     requires falsified { status (on (trail_of layout.variables len words.old)) (clause_of layout.variables k words.old) ≡ falsified }
     ensures chosen { (assumptions : List ℤ) → decision_at layout.variables words.old result
-        ≡ choice layout.slots (by_total Weight-as-Order.at_most Weight-as-Scale.zero Weight-as-Scale.plus (W.Weigher.weight weigher.now))
+        ≡ choice layout.slots (by_total W.Weight.at_most W.Weight.zero W.Weight.plus (W.weight weigher.now))
         (position_with assumptions layout.variables len filled words.old) (clause_of layout.variables k words.old) }
-    ensures rule { (assumptions : List ℤ) → Chooses layout.slots (by_total Weight-as-Order.at_most Weight-as-Scale.zero Weight-as-Scale.plus (W.Weigher.weight weigher.now))
+    ensures rule { (assumptions : List ℤ) → Chooses layout.slots (by_total W.Weight.at_most W.Weight.zero W.Weight.plus (W.weight weigher.now))
         (position_with assumptions layout.variables len filled words.old) (clause_of layout.variables k words.old) (decision_at layout.variables words.old result) }
     ensures marked { PlaceMarked layout.variables len words.old words.new result }
     ensures outside { Outside (5 * layout.variables) layout.variables words.old words.new }

@@ -34,15 +34,15 @@ pub(crate) fn drive<S: Source, W: Weigher>(
     start: Extent,
     scratch: &mut [u8],
 ) -> Ran
-    requires count { (S.Source.meaning source.now).count ≡ layout.variables }
-    requires lawful { Lawful (S.Source.meaning source.now) }
+    requires count { (S.meaning source.now).count ≡ layout.variables }
+    requires lawful { Lawful (S.meaning source.now) }
     requires sound { Standing layout start words.old }
     requires room { layout.variables ≤ length scratch.old }
     requires clear { scratch.old ≡ replicate (length scratch.old) 0 }
     ensures goes { Goes layout.variables layout.slots (record {
-      source = S.Source.meaning source.entry.now;
+      source = S.meaning source.entry.now;
       preferences = preferences.now;
-      weighing = by_total Weight-as-Order.at_most Weight-as-Scale.zero Weight-as-Scale.plus (W.Weigher.weight weigher.now);
+      weighing = by_total W.Weight.at_most W.Weight.zero W.Weight.plus (W.weight weigher.now);
     }) limit
         (position_at layout start words.old) (report_of result.report) (search_at layout result.extent result.report.verdict result.failed words.new) }
     ensures alive { Alive layout result.extent result.failed words.new }

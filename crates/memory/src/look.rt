@@ -70,12 +70,12 @@ fn find<S: Source>(
     len: usize,
     filled: usize,
 ) -> Option<usize>
-    requires count { (meaning source.now).count ≡ layout.variables }
-    requires lawful { Lawful (meaning source.now) }
+    requires count { (S.meaning source.now).count ≡ layout.variables }
+    requires lawful { Lawful (S.meaning source.now) }
     requires coherent { Coherent layout.variables layout.slots len words.old }
     requires room { filled ≤ layout.slots }
     requires stored { Stored layout.variables filled words.old }
-    ensures clause { taken_clause layout.variables words.new result ≡ look_after ((meaning source.now).answer (valuation layout.variables (trail_of layout.variables len words.old)))
+    ensures clause { taken_clause layout.variables words.new result ≡ look_after ((S.meaning source.now).answer (valuation layout.variables (trail_of layout.variables len words.old)))
         (trail_of layout.variables len words.old) (slots_of layout.variables filled words.old) }
     ensures whole { TakenWhole layout.variables words.new result }
     ensures outside { Outside (4 * layout.variables) layout.variables words.old words.new }
@@ -95,12 +95,12 @@ pub(crate) fn look<S: Source>(
     len: usize,
     filled: usize,
 ) -> Option<Found>
-    requires count { (meaning source.now).count ≡ layout.variables }
-    requires lawful { Lawful (meaning source.now) }
+    requires count { (S.meaning source.now).count ≡ layout.variables }
+    requires lawful { Lawful (S.meaning source.now) }
     requires coherent { Coherent layout.variables layout.slots len words.old }
     requires room { filled ≤ layout.slots }
     requires stored { Stored layout.variables filled words.old }
-    ensures found { found_clause layout.variables words.new result ≡ look_after ((meaning source.now).answer (valuation layout.variables (trail_of layout.variables len words.old)))
+    ensures found { found_clause layout.variables words.new result ≡ look_after ((S.meaning source.now).answer (valuation layout.variables (trail_of layout.variables len words.old)))
         (trail_of layout.variables len words.old) (slots_of layout.variables filled words.old) }
     ensures stands { FoundSo layout.variables (trail_of layout.variables len words.old) words.new result }
     ensures outside { Outside (4 * layout.variables) layout.variables words.old words.new }

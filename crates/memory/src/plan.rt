@@ -62,7 +62,7 @@ fn plan_for<W: Weigher>(
 ) -> Plan
     requires sound { Standing layout extent words.old }
     requires found { FoundWhole layout.variables (trail_of layout.variables extent.trail words.old) words.old found }
-    ensures planned { (g : Guide) → g.weighing ≡ by_total Weight-as-Order.at_most Weight-as-Scale.zero Weight-as-Scale.plus (W.Weigher.weight weigher.now)
+    ensures planned { (g : Guide) → g.weighing ≡ by_total W.Weight.at_most W.Weight.zero W.Weight.plus (W.weight weigher.now)
         → Look layout.variables g.source (position_at layout extent words.old) (Some (clause_of layout.variables found.count words.old))
         → Planned layout extent g words.new result }
     ensures position { position_at layout extent words.new ≡ position_at layout extent words.old }
@@ -112,13 +112,13 @@ pub(crate) fn next_plan<S: Source, W: Weigher>(
     layout: Layout,
     extent: Extent,
 ) -> Plan
-    requires count { (S.Source.meaning source.now).count ≡ layout.variables }
-    requires lawful { Lawful (S.Source.meaning source.now) }
+    requires count { (S.meaning source.now).count ≡ layout.variables }
+    requires lawful { Lawful (S.meaning source.now) }
     requires sound { Standing layout extent words.old }
     ensures planned { Planned layout extent (record {
-      source = S.Source.meaning source.entry.now;
+      source = S.meaning source.entry.now;
       preferences = preferences.now;
-      weighing = by_total Weight-as-Order.at_most Weight-as-Scale.zero Weight-as-Scale.plus (W.Weigher.weight weigher.now);
+      weighing = by_total W.Weight.at_most W.Weight.zero W.Weight.plus (W.weight weigher.now);
     }) words.new result }
     ensures position { position_at layout extent words.new ≡ position_at layout extent words.old }
     ensures sound { Standing layout extent words.new }

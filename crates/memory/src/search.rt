@@ -28,13 +28,13 @@ impl<'a> Search<'a> {
         ensures promised { (given : Given Reported Refused) × (result.answer ≡ Some given)
             × Promised self.entry.layout.variables self.entry.layout.slots (search_state self.entry)
             (running limit (record {
-              source = S.Source.meaning source.entry.now;
+              source = S.meaning source.entry.now;
               preferences = preferences.now;
-              weighing = by_total Weight-as-Order.at_most Weight-as-Scale.zero Weight-as-Scale.plus (W.Weigher.weight weigher.now);
+              weighing = by_total W.Weight.at_most W.Weight.zero W.Weight.plus (W.weight weigher.now);
             }) (length scratch.old))
             (reported_as given) (search_state result) }
-        ensures refusal { refusal_in result.answer ≡ run_refusal self.entry.layout.variables (S.Source.meaning source.now).count (length scratch.old) }
-        ensures scratch { scratch.new ≡ scratch_after (run_refusal self.entry.layout.variables (S.Source.meaning source.now).count (length scratch.old)) scratch.old }
+        ensures refusal { refusal_in result.answer ≡ run_refusal self.entry.layout.variables (S.meaning source.now).count (length scratch.old) }
+        ensures scratch { scratch.new ≡ scratch_after (run_refusal self.entry.layout.variables (S.meaning source.now).count (length scratch.old)) scratch.old }
         ensures layout { result.layout ≡ self.entry.layout }
         ensures size { length result.words.now ≡ length self.entry.words.now }
     {

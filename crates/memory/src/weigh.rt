@@ -17,9 +17,9 @@ pub(crate) fn weigh_marked<W: Weigher>(
     len: usize,
 ) -> W::Weight
     requires { Coherent layout.variables layout.slots len words.now }
-    ensures marked { result ≡ total_weight W.Weight.Scale.zero W.Weight.Scale.plus (weight weigher.now) (members (marked layout.variables words.now) (trail_of layout.variables len words.now)) }
+    ensures marked { result ≡ total_weight W.Weight.zero W.Weight.plus (W.weight weigher.now) (members (marked layout.variables words.now) (trail_of layout.variables len words.now)) }
     ensures chunk { (d : ℤ) → Marked layout.variables (trail_of layout.variables len words.now) (in_chunk d (trail_of layout.variables len words.now)) words.now
-        → result ≡ total_weight W.Weight.Scale.zero W.Weight.Scale.plus (weight weigher.now) (chunk (trail_of layout.variables len words.now) d) }
+        → result ≡ total_weight W.Weight.zero W.Weight.plus (W.weight weigher.now) (chunk (trail_of layout.variables len words.now) d) }
 {
     let start = 2 * layout.variables;
     let trail = &words[start..start + len];

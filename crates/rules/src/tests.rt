@@ -11,7 +11,7 @@ fn a_repeat_takes_no_word(rt: HostRuntime) -> Result<(), Fail> {
     let mut words = [7; 5];
     let mut book = ClauseBook::open(&mut words, 3);
     book.add(&[1, -2, 1, -2])?;
-    assert_eq!(rt; book.words(), &[1, -2, 0, 0, 0]);
+    assert_eq!(rt; book.words(), [1, -2, 0, 0, 0].as_slice());
     Ok(())
 }
 
@@ -21,10 +21,10 @@ fn a_clause_fits_to_the_word(rt: HostRuntime) {
     let mut book = ClauseBook::open(&mut words, 3);
     assert_eq!(rt; book.add(&[1, 2, 3]), Err(Refusal::NoRoom));
     assert_eq!(rt; book.add(&[1, 2, 4]), Err(Refusal::NoVariable));
-    assert_eq!(rt; book.words(), &[0, 0, 0]);
+    assert_eq!(rt; book.words(), [0, 0, 0].as_slice());
     assert_eq!(rt; book.add(&[1, 2]), Ok(()));
     assert_eq!(rt; book.add(&[]), Err(Refusal::NoRoom));
-    assert_eq!(rt; book.words(), &[1, 2, 0]);
+    assert_eq!(rt; book.words(), [1, 2, 0].as_slice());
 }
 
 #[test]
@@ -46,7 +46,7 @@ fn a_clause_literal_by_literal(rt: HostRuntime) {
     book.push(3);
     book.push(1);
     assert_eq!(rt; book.end(), Err(Refusal::NoVariable));
-    assert_eq!(rt; book.words(), &[2, -1, 0, 0]);
+    assert_eq!(rt; book.words(), [2, -1, 0, 0].as_slice());
 }
 
 #[test]
@@ -56,9 +56,9 @@ fn a_group_fits_to_the_word(rt: HostRuntime) {
     assert_eq!(rt; book.add(1, &[2, 1, 3, 4]), Err(Refusal::NoVariable));
     assert_eq!(rt; book.add(1, &[1, 2, -2, 3]), Err(Refusal::NotRising));
     assert_eq!(rt; book.add(1, &[1, 2, 3]), Err(Refusal::NoRoom));
-    assert_eq!(rt; book.words(), &[0, 0, 0, 0]);
+    assert_eq!(rt; book.words(), [0, 0, 0, 0].as_slice());
     assert_eq!(rt; book.add(1, &[-1, 3]), Ok(()));
-    assert_eq!(rt; book.words(), &[-1, 3, 2, 0]);
+    assert_eq!(rt; book.words(), [-1, 3, 2, 0].as_slice());
 }
 
 #[test]
@@ -71,7 +71,7 @@ fn a_group_literal_by_literal(rt: HostRuntime) {
     book.push(1);
     book.push(-2);
     assert_eq!(rt; book.end(0), Ok(()));
-    assert_eq!(rt; book.words(), &[1, -2, 1, 0, 0]);
+    assert_eq!(rt; book.words(), [1, -2, 1, 0, 0].as_slice());
 }
 
 #[test]
@@ -79,7 +79,7 @@ fn the_largest_limit(rt: HostRuntime) -> Result<(), Fail> {
     let mut words = [7; 2];
     let mut book = GroupBook::open(&mut words, 0);
     book.add(u32::MAX, &[])?;
-    assert_eq!(rt; book.words(), &[1_000_000_000, 0]);
+    assert_eq!(rt; book.words(), [1_000_000_000, 0].as_slice());
     Ok(())
 }
 

@@ -9,7 +9,7 @@ use Rattle.memory.proofs.analysis.analyse.Goals as goal
 
 pub resolve-requires : goal.resolve-requires
 resolve-requires c =
-    let o = c.mark-chunk.ensures.outside in
+    let o = c.mark_chunk.ensures.outside in
     let l = c.fill.ensures.len in
     let r = c.requires.room in
     record {
@@ -24,14 +24,14 @@ pub collect-requires : goal.collect-requires
 collect-requires c =
     let l = c.fill.ensures.len in
     let r = c.requires.room in
-    record { coherent = outside_coherent _ _ _ _ _ _ _ (omega arith) (omega arith) c.requires.coherent c.mark-chunk.ensures.outside (search rules); room = search rules }
+    record { coherent = outside_coherent _ _ _ _ _ _ _ (omega arith) (omega arith) c.requires.coherent c.mark_chunk.ensures.outside (search rules); room = search rules }
 
 pub returns : goal.returns
 returns c =
     let n = c.args.layout.variables in
-    let o = c.mark-chunk.ensures.outside in
-    let m = c.mark-chunk.ensures.marked in
-    let w1 = c.mark-chunk.new.words in
+    let o = c.mark_chunk.ensures.outside in
+    let m = c.mark_chunk.ensures.marked in
+    let w1 = c.mark_chunk.new.words in
     let d = word_at c.args.words.now (trail_at n c.args.root) in
     let S = set_of (trail_of n c.args.len w1) (held c.resolve.new.scratch) in
     let k = c.collect.ensures in

@@ -4,13 +4,13 @@ use Rattle.memory.specs.Decode.{trail_of}
 use Rattle.memory.specs.Analysis.{held, set_of}
 use Rattle.memory.proofs.Collecting.{Collected, collected_none, collected_skip, collected_add, value_small}
 use Rattle.memory.proofs.analysis.collect.Goals as goal
-use Rattle.memory.proofs.analysis.collect.Goals.{then-is-left, else-is-left}
+use Rattle.memory.proofs.analysis.collect.Goals.{then-is_left, else-is_left}
 
 pub loop-x-init : goal.loop-x-init
 loop-x-init c = (collected_none _ _ _, c.requires.coherent)
 
-pub put-negated-requires : goal.put-negated-requires
-put-negated-requires c =
+pub put_negated-requires : goal.put_negated-requires
+put_negated-requires c =
     let i = c.loop-x.invariant in
     let n = c.args.layout.variables in
     let x = c.loop-x.x in
@@ -33,13 +33,13 @@ loop-x-preserved c =
     let ws = c.loop-x.words in
     let B = held c.args.scratch.now in
     let v = i.0.out.below (value_at n x) (omega arith) in
-    let t = c.is-left.ensures ∙ ap (λ z. B x && not (eqb (nat_abs z) 0)) v in
-    elim c.if-is-left.branch [
-      | then-is-left w ↦
-          let a = subst (λ z. Wrote (clause_at n c.loop-x.count) (neg_ℤ z) ws w.put-negated.new.words) v
-          (subst (λ z. Wrote z (neg_ℤ (word_at ws (value_at n x))) ws w.put-negated.new.words) w.clause.ensures w.put-negated.ensures) in
-          rw (w.words-is, w.count_is) (collected_add _ _ _ _ _ B _ _ i.1 c.loop-x-test.true i.0 _ (sym t ∙ w.if-is-left.true) a, i.1)
-      | else-is-left w ↦ rw (w.words-is, w.count_is) (collected_skip _ _ _ _ _ B _ _ i.1 c.loop-x-test.true i.0 (sym t ∙ w.if-is-left.false), i.1)
+    let t = c.is_left.ensures ∙ ap (λ z. B x && not (eqb (nat_abs z) 0)) v in
+    elim c.if-is_left.branch [
+      | then-is_left w ↦
+          let a = subst (λ z. Wrote (clause_at n c.loop-x.count) (neg_ℤ z) ws w.put_negated.new.words) v
+          (subst (λ z. Wrote z (neg_ℤ (word_at ws (value_at n x))) ws w.put_negated.new.words) w.clause.ensures w.put_negated.ensures) in
+          rw (w.words-is, w.count-is) (collected_add _ _ _ _ _ B _ _ i.1 c.loop-x-test.true i.0 _ (sym t ∙ w.if-is_left.true) a, i.1)
+      | else-is_left w ↦ rw (w.words-is, w.count-is) (collected_skip _ _ _ _ _ B _ _ i.1 c.loop-x-test.true i.0 (sym t ∙ w.if-is_left.false), i.1)
     ]
 
 pub returns : goal.returns

@@ -11,8 +11,8 @@ use Rattle.memory.proofs.analysis.include_all.Goals as goal
 pub loop-i-init : goal.loop-i-init
 loop-i-init c = ((λ x. sym (or-false (held c.args.scratch.now x))), omega arith, omega arith)
 
-pub index-at-x-requires : goal.index-at-x-requires
-index-at-x-requires c =
+pub index_at-x-requires : goal.index_at-x-requires
+index_at-x-requires c =
     let n = c.args.layout.variables in
     let ws = c.args.words.now in
     let w = c.requires.within in
@@ -26,7 +26,7 @@ loop-i-preserved c =
     let i = c.loop-i.i in
     let t = trail_of n c.args.place ws in
     let v = c.loop-i.invariant in
-    let e = c.index-at-x.ensures.is in
+    let e = c.index_at-x.ensures.is in
     let r = c.include-new.ensures in
     let s = r.small in
     let m = v.2 in (

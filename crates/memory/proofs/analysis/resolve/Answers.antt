@@ -9,8 +9,8 @@ use Rattle.memory.proofs.Counting.{both_none, set_clause}
 use Rattle.memory.proofs.Resolving.{both_few, walk_on, walk_end}
 use Rattle.memory.proofs.analysis.resolve.Goals as goal
 
-pub include-all-touching-requires : goal.include-all-touching-requires
-include-all-touching-requires c =
+pub include_all-touching-requires : goal.include_all-touching-requires
+include_all-touching-requires c =
     let n = c.args.layout.variables in
     let ws = c.args.words.now in
     let e = c.clause.ensures in
@@ -32,22 +32,22 @@ loop-touching-init c =
     let t = trail_of n c.args.len ws in
     let e = c.clause.ensures in
     let z = both_none (marked_index n ws) (held c.args.scratch.now) t c.requires.clear in
-    let a = c.include-all-touching.ensures.new in (
+    let a = c.include_all-touching.ensures.new in (
       omega arith,
-      ap (analyse (marked n ws) t) (set_clause n t w (held c.include-all-touching.new.scratch) (words_from ws (clause_at n 0) c.args.k) c.requires.falsified
-          (λ x. c.include-all-touching.ensures.held x ∙ ap (λ b. b || names_index (words_from ws c.clause.result c.args.k) x) (c.requires.clear x)
+      ap (analyse (marked n ws) t) (set_clause n t w (held c.include_all-touching.new.scratch) (words_from ws (clause_at n 0) c.args.k) c.requires.falsified
+          (λ x. c.include_all-touching.ensures.held x ∙ ap (λ b. b || names_index (words_from ws c.clause.result c.args.k) x) (c.requires.clear x)
           ∙ ap (λ b. names_index (words_from ws b c.args.k) x) e)),
       omega arith,
     )
 
-pub overflow-sub-place : goal.overflow-sub-place
-overflow-sub-place c =
+pub overflow_sub-place : goal.overflow_sub-place
+overflow_sub-place c =
     let i = c.loop-touching.invariant.0 in
     let f = both_few (marked_index c.args.layout.variables c.args.words.now) (held c.loop-touching.scratch) c.args.layout.variables c.loop-touching.place c.args.words.now in
     omega arith
 
-pub resolve-at-touching-requires : goal.resolve-at-touching-requires
-resolve-at-touching-requires c =
+pub resolve_at-touching-requires : goal.resolve_at-touching-requires
+resolve_at-touching-requires c =
     let n = c.args.layout.variables in
     let ws = c.args.words.now in
     let i = c.loop-touching.invariant.0 in
@@ -81,10 +81,10 @@ loop-touching-preserved c =
     let f = both_few K B n p ws in
     let e : p ≡ p - 1 + 1 = omega arith in
     let g : 1 < both_count K B (trail_of n p ws) = omega arith in (
-      c.resolve-at-touching.ensures.touching,
-      walk_on _ _ _ _ c.requires.coherent _ (p - 1) (omega arith) B (held c.resolve-at-touching.new.scratch) (subst (λ z. 1 < both_count K B (trail_of n z ws)) e g)
+      c.resolve_at-touching.ensures.touching,
+      walk_on _ _ _ _ c.requires.coherent _ (p - 1) (omega arith) B (held c.resolve_at-touching.new.scratch) (subst (λ z. 1 < both_count K B (trail_of n z ws)) e g)
           (subst (λ z. analyse (marked n ws) (trail_of n z ws) (set_of T B) ≡ analyse (marked n ws) T (has (words_from ws (clause_at n 0) c.args.k))) e i.1)
-          c.resolve-at-touching.ensures.set,
+          c.resolve_at-touching.ensures.set,
       omega arith,
     )
 

@@ -12,18 +12,18 @@ returns-then-filled-layout g c =
     let n = c.args.layout.variables in
     let was = c.args.words.now in
     let t = trail_of n c.args.len was in
-    let le = lighter (by_total g.Weight.Order.at_most g.Weight.Scale.zero g.Weight.Scale.plus (g.W.Weigher.weight c.args.weigher.now)) t in
+    let le = lighter (by_total g.W.Weight.Order.at_most g.W.Weight.Scale.zero g.W.Weight.Scale.plus (g.W.Weigher.weight c.args.weigher.now)) t in
     let chosen = c.latest.ensures.chosen le ∙ ap (first_least le) (sym (allowed_first n c.args.layout.slots c.args.filled was (touched_decisions t (clause_of n c.args.k was)) c.if-filled-layout.true)) in
     record {
       chosen = λ _. chosen;
-      rule = λ assumptions. choice_rule g.Weight.Order.at_most g.met.Weight.Order.total g.met.Weight.Order.chain g.Weight.Scale.zero g.Weight.Scale.plus (g.W.Weigher.weight c.args.weigher.now)
+      rule = λ assumptions. choice_rule g.W.Weight.Order.at_most g.met.W.Weight.Order.total g.met.W.Weight.Order.chain g.W.Weight.Scale.zero g.W.Weight.Scale.plus (g.W.Weigher.weight c.args.weigher.now)
           n c.args.layout.slots c.args.len c.args.filled was c.requires.coherent (clause_of n c.args.k was) assumptions _ chosen;
       marked = c.latest.ensures.marked;
       outside = c.latest.ensures.outside;
     }
 
-pub mark-chunk-requires : goal.mark-chunk-requires
-mark-chunk-requires g c =
+pub mark_chunk-requires : goal.mark_chunk-requires
+mark_chunk-requires g c =
     let n = c.args.layout.variables in
     record {
       coherent = outside_coherent n _ _ (5 * n) n _ _ (omega arith) (omega arith) c.requires.coherent c.lightest.ensures.outside (search rules);
@@ -35,16 +35,16 @@ returns-in-Some g c =
     let n = c.args.layout.variables in
     let was = c.args.words.now in
     let t = trail_of n c.args.len was in
-    let le = lighter (by_total g.Weight.Order.at_most g.Weight.Scale.zero g.Weight.Scale.plus (g.W.Weigher.weight c.args.weigher.now)) t in
+    let le = lighter (by_total g.W.Weight.Order.at_most g.W.Weight.Scale.zero g.W.Weight.Scale.plus (g.W.Weigher.weight c.args.weigher.now)) t in
     let e = c.in-Some.ensures in
     let o = c.lightest.ensures.outside in
     let chosen = e.chosen ∙ ap (first_least le) (sym (allowed_all n c.args.layout.slots c.args.filled was (touched_decisions t (clause_of n c.args.k was)) c.if-filled-layout.false)) in
     record {
       chosen = λ _. chosen;
-      rule = λ assumptions. choice_rule g.Weight.Order.at_most g.met.Weight.Order.total g.met.Weight.Order.chain g.Weight.Scale.zero g.Weight.Scale.plus (g.W.Weigher.weight c.args.weigher.now)
+      rule = λ assumptions. choice_rule g.W.Weight.Order.at_most g.met.W.Weight.Order.total g.met.W.Weight.Order.chain g.W.Weight.Scale.zero g.W.Weight.Scale.plus (g.W.Weigher.weight c.args.weigher.now)
           n c.args.layout.slots c.args.len c.args.filled was c.requires.coherent (clause_of n c.args.k was) assumptions _ chosen;
-      marked = (e.within, marked_kept n _ c.args.len was c.lightest.new.words c.requires.coherent o c.in-Some.place e.within _ c.mark-chunk.ensures.marked);
-      outside = outside_both (5 * n) n was c.lightest.new.words _ o c.mark-chunk.ensures.outside;
+      marked = (e.within, marked_kept n _ c.args.len was c.lightest.new.words c.requires.coherent o c.in-Some.place e.within _ c.mark_chunk.ensures.marked);
+      outside = outside_both (5 * n) n was c.lightest.new.words _ o c.mark_chunk.ensures.outside;
     }
 
 pub returns-in-None : goal.returns-in-None
@@ -52,11 +52,11 @@ returns-in-None g c =
     let n = c.args.layout.variables in
     let was = c.args.words.now in
     let t = trail_of n c.args.len was in
-    let le = lighter (by_total g.Weight.Order.at_most g.Weight.Scale.zero g.Weight.Scale.plus (g.W.Weigher.weight c.args.weigher.now)) t in
+    let le = lighter (by_total g.W.Weight.Order.at_most g.W.Weight.Scale.zero g.W.Weight.Scale.plus (g.W.Weigher.weight c.args.weigher.now)) t in
     let chosen = c.in-None.ensures.chosen ∙ ap (first_least le) (sym (allowed_all n c.args.layout.slots c.args.filled was (touched_decisions t (clause_of n c.args.k was)) c.if-filled-layout.false)) in
     record {
       chosen = λ _. chosen;
-      rule = λ assumptions. choice_rule g.Weight.Order.at_most g.met.Weight.Order.total g.met.Weight.Order.chain g.Weight.Scale.zero g.Weight.Scale.plus (g.W.Weigher.weight c.args.weigher.now)
+      rule = λ assumptions. choice_rule g.W.Weight.Order.at_most g.met.W.Weight.Order.total g.met.W.Weight.Order.chain g.W.Weight.Scale.zero g.W.Weight.Scale.plus (g.W.Weigher.weight c.args.weigher.now)
           n c.args.layout.slots c.args.len c.args.filled was c.requires.coherent (clause_of n c.args.k was) assumptions _ chosen;
       marked = tt;
       outside = c.lightest.ensures.outside;

@@ -6,15 +6,15 @@ use Rattle.memory.proofs.Decode.{outside_coherent}
 use Rattle.memory.proofs.Choosing.{decisions_in, decisions_with, decisions_without, marked_kept, falsified_kept, touched_kept}
 use Rattle.memory.proofs.choose.latest.Goals as goal
 
-pub touched-at-requires : goal.touched-at-requires
-touched-at-requires c =
+pub touched_at-requires : goal.touched_at-requires
+touched_at-requires c =
     let i = c.places.invariant in
     let h = c.places-test.true in
     let b = i.1 in
     record { coherent = i.3; within = omega arith; few = c.requires.few; falsified = falsified_kept _ _ _ _ _ c.requires.coherent i.2 c.args.k c.requires.few c.requires.falsified }
 
-pub returns-then-touched-at : goal.returns-then-touched-at
-returns-then-touched-at c =
+pub returns-then-touched_at : goal.returns-then-touched_at
+returns-then-touched_at c =
     let n = c.args.layout.variables in
     let len = c.args.len in
     let was = c.args.words.now in
@@ -27,7 +27,7 @@ returns-then-touched-at c =
     let b = i.1 in
     let h = c.places-test.true in
     let within : p < len = omega arith in
-    let e = c.if-touched-at.ensures in
+    let e = c.if-touched_at.ensures in
     let hit = sym (e.is ∙ touched_kept n _ len was mid c.requires.coherent i.2 c.args.k c.requires.few p within) in
     let all = sym (decisions_with n was t C p q (omega arith) hit) ∙ i.0 in
     record {
@@ -48,7 +48,7 @@ places-preserved c =
     let b = i.1 in
     let h = c.places-test.true in
     let within : p < len = omega arith in
-    let e = c.if-touched-at.ensures in
+    let e = c.if-touched_at.ensures in
     let miss = sym (e.is ∙ touched_kept n _ len was mid c.requires.coherent i.2 c.args.k c.requires.few p within) in (
       sym (decisions_without n was (trail_of n len was) (clause_of n c.args.k was) p q (omega arith) miss) ∙ i.0,
       omega arith,

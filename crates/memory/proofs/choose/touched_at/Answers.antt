@@ -16,17 +16,17 @@ returns-in-Decided c =
     let C = clause_of n c.args.k ws in
     let e = entry_at n ws c.args.place in
     record {
-      is = c.mark-touched.ensures.touches ∙ ap (λ l. touches t l C) (sym (literal_of n ws (word_at ws (trail_at n c.args.place)))) ∙ sym (touched_decided t C e c.in-Decided.ensures);
-      marked = λ _. c.mark-touched.ensures.marked;
-      outside = c.mark-touched.ensures.outside;
+      is = c.mark_touched.ensures.touches ∙ ap (λ l. touches t l C) (sym (literal_of n ws (word_at ws (trail_at n c.args.place)))) ∙ sym (touched_decided t C e c.in-Decided.ensures);
+      marked = λ _. c.mark_touched.ensures.marked;
+      outside = c.mark_touched.ensures.outside;
     }
 
-pub returns-in-default : goal.returns-in-default
-returns-in-default c =
+pub returns-in_default : goal.returns-in_default
+returns-in_default c =
     let n = c.args.layout.variables in
     let ws = c.args.words.now in
     record {
-      is = sym (touched_not (trail_of n c.args.len ws) (clause_of n c.args.k ws) (entry_at n ws c.args.place) (λ z. c.in-default.not-Decided (c.standing-at.ensures ∙ z)));
+      is = sym (touched_not (trail_of n c.args.len ws) (clause_of n c.args.k ws) (entry_at n ws c.args.place) (λ z. c.in_default.not-Decided (c.standing_at.ensures ∙ z)));
       marked = λ z. absurd (false≢true z);
       outside = outside_none _ _ _;
     }

@@ -15,7 +15,7 @@ loop-literal-preserved c =
     let i = c.loop-literal.literal-index in
     let l = get_or C i (pos 0) in
     let fits : SFits w32 l = search rules in
-    c.with-status.ensures ∙ ap (with_value c.loop-literal.status) (c.value-of.ensures ∙ ap (value_in (true_in row)) (to_z-of_z w32 l fits))
+    c.with-status.ensures ∙ ap (with_value c.loop-literal.status) (c.value_of.ensures ∙ ap (value_in (true_in row)) (to_z-of_z w32 l fits))
     ∙ ap (λ k. with_value k (value_in (true_in row) l)) c.loop-literal.invariant ∙ sym (status_push (true_in row) (take i C) l (one_true row l))
     ∙ ap (λ K. kind_of (status (true_in row) K)) (sym (take_more C i (pos 0) c.loop-literal-test.true))
 

@@ -9,8 +9,8 @@ use Rattle.memory.specs.Decode.{trail_of}
 use Rattle.memory.proofs.Decisions.{first_found, none_found}
 use Rattle.memory.proofs.deciding.first_free.Goals as goal
 
-pub returns-then-is-free : goal.returns-then-is-free
-returns-then-is-free c =
+pub returns-then-is_free : goal.returns-then-is_free
+returns-then-is_free c =
     let n = c.args.layout.variables in
     let list = c.args.preferences.now in
     let i = c.loop-literal.literal-index in
@@ -20,7 +20,7 @@ returns-then-is-free c =
     let same = to_z-of_z w32 l fits in
     subst (First test list) (sym same)
     (first_found test list (drop (i + 1) list) l (sym (at_drop_more (first_of test) list i (pos 0) c.loop-literal-test.true) ∙ c.loop-literal.invariant)
-    (ap test (sym same) ∙ sym (c.if-is-free.ensures c.args.len c.requires)))
+    (ap test (sym same) ∙ sym (c.if-is_free.ensures c.args.len c.requires)))
 
 pub loop-literal-preserved : goal.loop-literal-preserved
 loop-literal-preserved c =
@@ -31,7 +31,7 @@ loop-literal-preserved c =
     let test = free n (trail_of n c.args.len c.args.words.now) in
     let fits : SFits w32 l = search rules in
     let same = to_z-of_z w32 l fits in
-    sym (cond-false (test l) (Some l) (first_of test (drop (i + 1) list)) (ap test (sym same) ∙ sym (c.if-is-free.ensures c.args.len c.requires)))
+    sym (cond-false (test l) (Some l) (first_of test (drop (i + 1) list)) (ap test (sym same) ∙ sym (c.if-is_free.ensures c.args.len c.requires)))
     ∙ sym (at_drop_more (first_of test) list i (pos 0) c.loop-literal-test.true) ∙ c.loop-literal.invariant
 
 pub returns : goal.returns

@@ -8,17 +8,17 @@ use Rattle.memory.proofs.Decisions.{first_found, none_found, true_there, true_no
 use Rattle.memory.proofs.Recalling.{rest_next}
 use Rattle.memory.proofs.deciding.first_missing.Goals as goal
 
-pub returns-in-default : goal.returns-in-default
-returns-in-default c =
+pub returns-in_default : goal.returns-in_default
+returns-in_default c =
     let ws = c.args.words.now in
     let count = c.args.count in
     let i = c.loop-i.i in
     let h = c.loop-i-test.true in
     let test = missing (trail_of c.args.layout.variables c.args.len ws) in
-    let e = c.value-at.ensures c.args.len c.requires.coherent (c.requires.ranged i h) in
+    let e = c.value_at.ensures c.args.len c.requires.coherent (c.requires.ranged i h) in
     record {
       first = first_found test (assumptions_of count ws) (words_from ws (i + 1) (count - (i + 1))) (word_at ws i)
-          (ap (first_of test) (sym (rest_next (word_at ws) i count h)) ∙ c.loop-i.invariant) (true_not_there _ (word_at ws i) (λ t. c.in-default.not-True (e ∙ t)));
+          (ap (first_of test) (sym (rest_next (word_at ws) i count h)) ∙ c.loop-i.invariant) (true_not_there _ (word_at ws i) (λ t. c.in_default.not-True (e ∙ t)));
       within = h;
     }
 

@@ -5,10 +5,10 @@ use Rattle.memory.specs.Decode.{trail_of, open_index}
 use Rattle.memory.proofs.Decisions.{unvalued_free}
 use Rattle.memory.proofs.deciding.is_free.Goals as goal
 
-pub returns-then-is-in-range : goal.returns-then-is-in-range
-returns-then-is-in-range c len st =
+pub returns-then-is_in_range : goal.returns-then-is_in_range
+returns-then-is_in_range c len st =
     let n = c.args.layout.variables in
     let ws = c.args.words.now in
     let l = c.args.literal in
-    c.is-open.ensures ∙ ap (open_index n ws) c.index-of.ensures ∙ unvalued_free n _ len ws st (to_z w32 (of_z w32 l)) (sym c.if-is-in-range.ensures)
+    c.is_open.ensures ∙ ap (open_index n ws) c.index_of.ensures ∙ unvalued_free n _ len ws st (to_z w32 (of_z w32 l)) (sym c.if-is_in_range.ensures)
     ∙ ap (free n (trail_of n len ws)) (to_z-of_z w32 l c.ranges.literal)

@@ -18,5 +18,5 @@ pub returns-in-None : goal.returns-in-None
 returns-in-None c =
     let n = c.args.layout.variables in
     let t = trail_of n c.args.len c.args.words.now in
-    let d = none_preferred n t c.args.preferences.now c.in-None.ensures c.lowest-free.result c.lowest-free.ensures in
+    let d = none_preferred n t c.args.preferences.now c.in-None.ensures c.lowest_free.result c.lowest_free.ensures in
     record { decides = d; unassigned = decides_free n t _ _ d }

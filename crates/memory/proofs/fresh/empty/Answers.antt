@@ -7,9 +7,9 @@ use Rattle.memory.proofs.fresh.empty.Goals as goal
 pub returns : goal.returns
 returns c =
     let n = c.args.layout.variables in
-    let z = c.zero-from.ensures in
+    let z = c.zero_from.ensures in
     let was = c.args.words.now in
-    let now = c.zero-from.new.words in
+    let now = c.zero_from.new.words in
     record {
       zero = z.zero;
       assumptions = λ count h. counted_same (word_at now) (word_at was) 0 0 count (λ i l. z.before (0 + i) (omega arith));

@@ -14,7 +14,7 @@ returns-then-open-count c =
     let h = c.if-open-count.true in (
       h,
       unit_in_hand n _ c.args.len ws c.requires.coherent k few c.requires.ranged c.requires.asserting (4 * n) (4 * n + k - 4 * n) (4 * n - 3 * n) (omega arith) (omega arith) (omega arith)
-          c.first-unassigned-open.result h (c.first-unassigned-open.ensures.found (omega arith)),
+          c.first_unassigned-open.result h (c.first_unassigned-open.ensures.found (omega arith)),
     )
 
 pub returns-else-open-count : goal.returns-else-open-count
@@ -24,4 +24,4 @@ returns-else-open-count c =
     let few = c.requires.few in
     let h = c.if-open-count.false in
     falsified_in_hand n _ c.args.len c.args.words.now c.requires.coherent k few c.requires.ranged c.requires.asserting (4 * n) (4 * n + k - 4 * n) (4 * n - 3 * n) (omega arith) (omega arith) (omega arith)
-    (λ i l. c.first-unassigned-open.ensures.before i (omega arith))
+    (λ i l. c.first_unassigned-open.ensures.before i (omega arith))

@@ -7,8 +7,8 @@ use Rattle.memory.proofs.Decode.{outside_trail, outside_coherent}
 use Rattle.memory.proofs.Recalling.{slots_outside, stored_outside}
 use Rattle.memory.proofs.look.find.Goals as goal
 
-pub recall-first-requires : goal.recall-first-requires
-recall-first-requires g c =
+pub recall_first-requires : goal.recall_first-requires
+recall_first-requires g c =
     let n = c.args.layout.variables in
     let o = c.ask.ensures.outside in
     record {
@@ -26,8 +26,8 @@ returns-in-Silent g c =
     let t = trail_of n c.args.len was in
     let slots = slots_of n c.args.filled was in
     record {
-      clause = c.recall-first.ensures.clause ∙ ap (λ u. look_after silent u (slots_of n c.args.filled mid)) (outside_trail n _ c.args.len (4 * n) n was mid (omega arith) (omega arith) c.requires.coherent o)
+      clause = c.recall_first.ensures.clause ∙ ap (λ u. look_after silent u (slots_of n c.args.filled mid)) (outside_trail n _ c.args.len (4 * n) n was mid (omega arith) (omega arith) c.requires.coherent o)
           ∙ ap (look_after silent t) (slots_outside n (4 * n) n was mid (omega arith) o c.args.filled) ∙ ap (λ a. look_after a t slots) c.in-Silent.ensures.told;
-      whole = c.recall-first.ensures.whole;
-      outside = outside_both (4 * n) n was mid _ o c.recall-first.ensures.outside;
+      whole = c.recall_first.ensures.whole;
+      outside = outside_both (4 * n) n was mid _ o c.recall_first.ensures.outside;
     }

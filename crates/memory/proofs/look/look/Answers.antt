@@ -8,8 +8,8 @@ use Rattle.memory.specs.Finding.{StandsSo}
 use Rattle.memory.proofs.Recalling.{look_asserting}
 use Rattle.memory.proofs.look.look.Goals as goal
 
-pub assertion-of-requires : goal.assertion-of-requires
-assertion-of-requires g c =
+pub assertion_of-requires : goal.assertion_of-requires
+assertion_of-requires g c =
     let n = c.args.layout.variables in
     let m = g.S.Source.meaning c.args.source.now in
     let was = c.args.words.now in
@@ -36,6 +36,6 @@ returns-in-Some g c =
     let t = outside_trail n _ c.args.len (4 * n) n was mid (omega arith) (omega arith) c.requires.coherent o in
     record {
       found = e.clause;
-      stands = record { few = e.whole.0; ranged = e.whole.1; stands = subst (λ u. StandsSo n u mid c.in-Some.count c.assertion-of.result) t c.assertion-of.ensures };
+      stands = record { few = e.whole.0; ranged = e.whole.1; stands = subst (λ u. StandsSo n u mid c.in-Some.count c.assertion_of.result) t c.assertion_of.ensures };
       outside = o;
     }

@@ -10,6 +10,6 @@ pub returns : goal.returns
 returns c =
     let n = c.args.layout.variables in
     let ws = c.args.words.now in
-    let f = c.first-marked.ensures in
-    any_first (marked n ws) ws c.args.base c.args.k c.first-marked.result f.few f.before f.found
+    let f = c.first_marked.ensures in
+    any_first (marked n ws) ws c.args.base c.args.k c.first_marked.result f.few f.before f.found
     ∙ ap (λ test. any_pass test (words_from ws c.args.base c.args.k)) (fun_ext (λ l. ap (marked_index n ws) (sym (index_neg l))))

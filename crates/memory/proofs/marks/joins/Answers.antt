@@ -5,8 +5,8 @@ use Rattle.memory.proofs.Words.{row_below}
 use Rattle.memory.proofs.Decode.{front_formed, reason_false, false_ranged}
 use Rattle.memory.proofs.marks.joins.Goals as goal
 
-pub any-marked-requires : goal.any-marked-requires
-any-marked-requires c =
+pub any_marked-requires : goal.any_marked-requires
+any_marked-requires c =
     let n = c.args.layout.variables in
     let ws = c.args.words.now in
     let x = c.variable-x.result in
@@ -16,7 +16,7 @@ any-marked-requires c =
     let k = c.requires.coherent.counts x b in
     let big = c.requires.coherent.big in
     let e = c.reason.ensures in
-    let d = c.reason-count.ensures in
+    let d = c.reason_count.ensures in
     let r = row_below n c.args.layout.slots x (1 + reason_count n ws x) (omega arith) (omega arith) in
     let f = reason_false n c.args.len ws w p c.requires.within x c.variable-x.ensures.is (sym c.if-implied.ensures) in
     record {

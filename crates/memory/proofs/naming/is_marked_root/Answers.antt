@@ -9,11 +9,11 @@ returns-in-True c len st =
     let l = c.args.literal in
     let e = to_z-of_z w32 l c.ranges.literal in
     let v = rw e at (c.in-True.ensures len st) in
-    c.is-marked-assumed.ensures ∙ root_true c.args.layout.variables len c.args.words.now l _ (c.index-of.ensures ∙ ap index_of e) (v c.requires.ranged)
+    c.is_marked_assumed.ensures ∙ root_true c.args.layout.variables len c.args.words.now l _ (c.index_of.ensures ∙ ap index_of e) (v c.requires.ranged)
 
-pub returns-in-default : goal.returns-in-default
-returns-in-default c len st =
+pub returns-in_default : goal.returns-in_default
+returns-in_default c len st =
     let l = c.args.literal in
     let e = to_z-of_z w32 l c.ranges.literal in
     let v = rw e at (c.value.ensures len st) in
-    root_other c.args.layout.variables len c.args.words.now l c.value.result c.in-default.not-True (v c.requires.ranged)
+    root_other c.args.layout.variables len c.args.words.now l c.value.result c.in_default.not-True (v c.requires.ranged)

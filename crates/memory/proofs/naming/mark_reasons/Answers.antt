@@ -18,8 +18,8 @@ places-init c =
       c.requires,
     )
 
-pub mark-reason-requires : goal.mark-reason-requires
-mark-reason-requires c = let i = c.places.invariant in let h = c.places-test.true in let b = i.1 in record { coherent = i.3; within = omega arith }
+pub mark_reason-requires : goal.mark_reason-requires
+mark_reason-requires c = let i = c.places.invariant in let h = c.places-test.true in let b = i.1 in record { coherent = i.3; within = omega arith }
 
 pub places-preserved : goal.places-preserved
 places-preserved c =
@@ -27,15 +27,15 @@ places-preserved c =
     let len = c.args.len in
     let was = c.args.words.now in
     let mid = c.places.words in
-    let now = c.mark-reason.new.words in
+    let now = c.mark_reason.new.words in
     let q = c.places.place in
     let p = q - 1 in
     let i = c.places.invariant in
     let b = i.1 in
     let h = c.places-test.true in
     let within : p < len = omega arith in
-    let o = c.mark-reason.ensures.outside in (
-      (λ r a. walk_back n _ len was mid now c.requires i.2 p q (omega arith) within c.mark-reason.ensures.marked r a ∙ i.0 r a),
+    let o = c.mark_reason.ensures.outside in (
+      (λ r a. walk_back n _ len was mid now c.requires i.2 p q (omega arith) within c.mark_reason.ensures.marked r a ∙ i.0 r a),
       omega arith,
       outside_both (5 * n) n was mid now i.2 o,
       outside_coherent n _ len (5 * n) n mid now (omega arith) (omega arith) i.3 o (search rules),

@@ -15,31 +15,31 @@ returns-in-False c = λ guide w lk.
     denial_planned c.args.layout.variables c.args.layout.slots e.assumptions e.trail e.slots c.args.words.now c.requires i f.within f.first guide lk
     (sym (c.in-False.ensures e.trail c.requires.coherent (c.requires.ranged i f.within)))
 
-pub returns-in-default : goal.returns-in-default
-returns-in-default c = λ guide w lk.
+pub returns-in_default : goal.returns-in_default
+returns-in_default c = λ guide w lk.
     let e = c.args.extent in
     let i = c.in-Some.number in
     let f = c.in-Some.ensures in
     assumption_planned c.args.layout.variables c.args.layout.slots e.assumptions e.trail e.slots c.args.words.now c.requires i f.within f.first guide lk
-    (λ v. c.in-default.not-False (c.value-at.ensures e.trail c.requires.coherent (c.requires.ranged i f.within) ∙ v))
+    (λ v. c.in_default.not-False (c.value_at.ensures e.trail c.requires.coherent (c.requires.ranged i f.within) ∙ v))
 
-pub returns-in-Some-next-decision : goal.returns-in-Some-next-decision
-returns-in-Some-next-decision c = λ guide w lk.
+pub returns-in-Some-next_decision : goal.returns-in-Some-next_decision
+returns-in-Some-next_decision c = λ guide w lk.
     let n = c.args.layout.variables in
     let L = c.args.layout.slots in
     let ws = c.args.words.now in
     let p = position_at c.args.layout c.args.extent ws in
-    let l = c.in-Some-next-decision.literal in
+    let l = c.in-Some-next_decision.literal in
     let fits : SFits w32 l = search rules in
-    let d = subst (λ ls. Decides n p.trail ls c.next-decision.result) (sym w) c.next-decision.ensures.decides in
+    let d = subst (λ ls. Decides n p.trail ls c.next_decision.result) (sym w) c.next_decision.ensures.decides in
     rw (to_z-of_z w32 l fits) (
-      c.next-decision.ensures.unassigned l c.in-Some-next-decision.is,
-      λ k undone p'. placing_step n L guide p (decided l) deciding k undone p' (decision_step n L guide p lk l c.in-None.ensures.first c.next-decision.result c.in-Some-next-decision.is d),
+      c.next_decision.ensures.unassigned l c.in-Some-next_decision.is,
+      λ k undone p'. placing_step n L guide p (decided l) deciding k undone p' (decision_step n L guide p lk l c.in-None.ensures.first c.next_decision.result c.in-Some-next_decision.is d),
     )
 
-pub returns-in-None-next-decision : goal.returns-in-None-next-decision
-returns-in-None-next-decision c = λ guide w lk.
+pub returns-in-None-next_decision : goal.returns-in-None-next_decision
+returns-in-None-next_decision c = λ guide w lk.
     let n = c.args.layout.variables in
     let p = position_at c.args.layout c.args.extent c.args.words.now in
-    let d = subst (λ ls. Decides n p.trail ls c.next-decision.result) (sym w) c.next-decision.ensures.decides in
-    (tt, completion n c.args.layout.slots guide p lk c.in-None.ensures.first c.next-decision.result c.in-None-next-decision.is d)
+    let d = subst (λ ls. Decides n p.trail ls c.next_decision.result) (sym w) c.next_decision.ensures.decides in
+    (tt, completion n c.args.layout.slots guide p lk c.in-None.ensures.first c.next_decision.result c.in-None-next_decision.is d)

@@ -5,7 +5,7 @@ use Rattle.memory.specs.Decode.{marked}
 use Rattle.memory.proofs.Decode.{outside_coherent}
 use Rattle.memory.proofs.Repairing.{Resolved, Found, left_ranged, closed, there, placeable, undone_count, sound_placed, ranged_placed, sound_learned, repairs, repair_frame}
 use Rattle.memory.proofs.repair.repair.Goals as goal
-use Rattle.memory.proofs.repair.repair.Goals.{After-analyse-left, After-first-marked-at}
+use Rattle.memory.proofs.repair.repair.Goals.{After-analyse-left, After-first_marked-at}
 
 pub analyse-left-requires : goal.analyse-left-requires
 analyse-left-requires c =
@@ -35,8 +35,8 @@ resolved c =
       frame = a.outside;
     }
 
-pub first-marked-at-requires : goal.first-marked-at-requires
-first-marked-at-requires c =
+pub first_marked-at-requires : goal.first_marked-at-requires
+first_marked-at-requires c =
     let n = c.args.layout.variables in
     let f = c.analyse-left.ensures.few in
     let big = c.requires.sound.coherent.big in
@@ -46,41 +46,41 @@ first-marked-at-requires c =
       big = omega arith;
       within = omega arith;
       ranged = λ i h. subst (λ b. in_range n (word_at c.analyse-left.new.words (b + i)) ≡ true) (sym e)
-          (left_ranged _ _ _ _ _ _ _ _ _ _ _ (resolved (goal.at.first-marked-at-requires c).After-analyse-left) i h);
+          (left_ranged _ _ _ _ _ _ _ _ _ _ _ (resolved (goal.at.first_marked-at-requires c).After-analyse-left) i h);
     }
 
 -- the literal to place
-found : (c : goal.After-first-marked-at)
-    → Found c.args.layout.variables c.args.layout.slots c.args.extent.assumptions c.args.extent.trail c.args.extent.slots c.args.k c.analyse-left.result c.args.root c.first-marked-at.result
+found : (c : goal.After-first_marked-at)
+    → Found c.args.layout.variables c.args.layout.slots c.args.extent.assumptions c.args.extent.trail c.args.extent.slots c.args.k c.analyse-left.result c.args.root c.first_marked-at.result
     c.analyse-left.ensures.left.0 c.args.words.now c.analyse-left.new.words
 found c =
     let n = c.args.layout.variables in
     let w1 = c.analyse-left.new.words in
     let e = c.clause.ensures in
-    let p = c.first-marked-at.ensures in
+    let p = c.first_marked-at.ensures in
     record {
-      resolved = resolved (goal.at.After-first-marked-at c).After-analyse-left;
+      resolved = resolved (goal.at.After-first_marked-at c).After-analyse-left;
       most = p.few;
-      before = subst (λ b. (i : ℕ) → i < c.first-marked-at.result → marked n w1 (word_at w1 (b + i)) ≡ false) e p.before;
-      found = subst (λ b. c.first-marked-at.result < c.analyse-left.result → marked n w1 (word_at w1 (b + c.first-marked-at.result)) ≡ true) e p.found;
+      before = subst (λ b. (i : ℕ) → i < c.first_marked-at.result → marked n w1 (word_at w1 (b + i)) ≡ false) e p.before;
+      found = subst (λ b. c.first_marked-at.result < c.analyse-left.result → marked n w1 (word_at w1 (b + c.first_marked-at.result)) ≡ true) e p.found;
     }
 
-pub undo-marked-rest-requires : goal.undo-marked-rest-requires
-undo-marked-rest-requires c = record {
+pub undo_marked-rest-requires : goal.undo_marked-rest-requires
+undo_marked-rest-requires c = record {
   coherent = outside_coherent _ _ _ _ _ _ _ (omega arith) (omega arith) c.requires.sound.coherent c.analyse-left.ensures.outside (search rules);
-  closed = closed _ _ _ _ _ _ _ _ _ _ _ _ (found (goal.at.undo-marked-rest-requires c).After-first-marked-at);
+  closed = closed _ _ _ _ _ _ _ _ _ _ _ _ (found (goal.at.undo_marked-rest-requires c).After-first_marked-at);
 }
 
 pub imply-requires : goal.imply-requires
 imply-requires c =
-    let g = found (goal.at.imply-requires c).After-first-marked-at in
-    let u = c.undo-marked-rest.ensures in
+    let g = found (goal.at.imply-requires c).After-first_marked-at in
+    let u = c.undo_marked-rest.ensures in
     record { coherent = u.coherent; few = c.analyse-left.ensures.few; among = there _ _ _ _ _ _ _ _ _ _ _ _ g; placeable = placeable _ _ _ _ _ _ _ _ _ _ _ _ g _ _ u.trail u.outside }
 
 pub learn-filled-requires : goal.learn-filled-requires
 learn-filled-requires c =
-    let g = found (goal.at.learn-filled-requires c).After-first-marked-at in
-    let u = c.undo-marked-rest.ensures in
+    let g = found (goal.at.learn-filled-requires c).After-first_marked-at in
+    let u = c.undo_marked-rest.ensures in
     let i = c.imply.ensures in
     record {
       big = i.coherent.big;
@@ -92,8 +92,8 @@ learn-filled-requires c =
 
 pub returns : goal.returns
 returns c =
-    let g = found (goal.at.returns c).After-first-marked-at in
-    let u = c.undo-marked-rest.ensures in
+    let g = found (goal.at.returns c).After-first_marked-at in
+    let u = c.undo_marked-rest.ensures in
     let i = c.imply.ensures in
     let k = c.learn-filled.ensures in
     record {

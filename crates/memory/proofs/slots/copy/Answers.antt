@@ -16,8 +16,8 @@ loop-i-preserved c =
     let was = c.args.words.now in
     let ws = c.loop-i.words in
     let e : word_at ws (from + i) ≡ word_at was (from + i) = elim c.requires.apart [ inl a ↦ v.1.below (from + i) (omega arith) | inr a ↦ v.1.above (from + i) (omega arith) ] in
-    let w = subst (λ x. Wrote (c.args.to + i) x ws c.put-copy.new.words) e c.put-copy.ensures in (
-      words_push ws c.put-copy.new.words c.args.to i (word_at was (from + i)) w ∙ ap (λ xs. xs ++ (word_at was (from + i) ∷ [])) v.0
+    let w = subst (λ x. Wrote (c.args.to + i) x ws c.put_copy.new.words) e c.put_copy.ensures in (
+      words_push ws c.put_copy.new.words c.args.to i (word_at was (from + i)) w ∙ ap (λ xs. xs ++ (word_at was (from + i) ∷ [])) v.0
           ∙ sym (map-range_with_len_more (word_at was) from i (from + i) refl),
       outside_more _ _ _ _ _ _ _ (omega arith) (omega arith) v.1 w,
     )

@@ -35,7 +35,7 @@ loop-s-preserved c =
     let found = learned_at n ws unit in
     let rest = map (slot_of n ws) (range_with_len (s + 1) (c.args.filled - (s + 1))) in
     let step = ap (recalled t found) (sym (rest_next (slot_of n ws) s c.args.filled c.loop-s-test.true)) ∙ c.loop-s.invariant.0 in
-    elim c.match-slot-status.branch [
+    elim c.match-slot_status.branch [
       | in-Unit w ↦
           let k = is_unit_kind (status (on t) C) (sym w.in-Unit.ensures) in
           let e = w.unit-is ∙ w.or-unit.ensures in (

@@ -45,7 +45,7 @@ returns c =
     let cp : words_from mid (row_at n (n + filled) 1) k ≡ C =
     ap (λ b. words_from mid b k) (sym d) ∙ c.copy.ensures.copied ∙ ap (λ b. words_from was b k) e in
     let o = subst (λ b. Outside b k was mid) d c.copy.ensures.outside in
-    let a = c.set-count.ensures in
+    let a = c.set_count.ensures in
     record {
       slots = stored_slots n filled k C was mid _ f cp o a c.requires.stored ∙ sym (written_next n L filled was C (omega arith));
       within = omega arith;

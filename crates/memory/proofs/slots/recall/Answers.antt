@@ -13,7 +13,7 @@ copy-requires c =
     let f = c.requires.short in
     let e = c.clause.ensures in
     let d = c.slot.ensures.at in
-    let k = c.slot-count-k.ensures in
+    let k = c.slot_count-k.ensures in
     let r = c.slot.ensures.room in
     record { apart = inr (omega arith); room = (omega arith, omega arith) }
 
@@ -25,11 +25,11 @@ returns c =
     let s = c.args.slot in
     let e = c.clause.ensures in
     let d = c.slot.ensures.at in
-    let k = c.slot-count-k.ensures in
+    let k = c.slot_count-k.ensures in
     let f = c.requires.short in
     record {
-      clause = ap (λ b. words_from now b c.slot-count-k.result) (sym e) ∙ c.copy.ensures.copied
-          ∙ ap (λ b. words_from was b c.slot-count-k.result) d ∙ ap (words_from was (row_at n (n + s) 1)) k;
+      clause = ap (λ b. words_from now b c.slot_count-k.result) (sym e) ∙ c.copy.ensures.copied
+          ∙ ap (λ b. words_from was b c.slot_count-k.result) d ∙ ap (words_from was (row_at n (n + s) 1)) k;
       few = omega arith;
       outside = outside_wider _ _ (4 * n) n was now (omega arith) (omega arith) c.copy.ensures.outside;
     }

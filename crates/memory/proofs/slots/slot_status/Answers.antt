@@ -13,8 +13,8 @@ returns c =
     let start = c.slot-start.result in
     let at = c.slot-start.ensures.at in
     let room = c.slot-start.ensures.room in
-    let many = c.slot-count-count.ensures in
+    let many = c.slot_count-count.ensures in
     let short = c.requires.stored.short s c.requires.within in
     let big = c.requires.coherent.big in
-    c.clause-status.ensures ∙ ap kind_of (part_status n _ c.args.len ws c.requires.coherent (row_at n (n + s) 1) (slot_count n ws s) (omega arith) (λ i h. c.requires.stored.ranged s i c.requires.within h)
-    start (start + c.slot-count-count.result - start) (4 * n - 3 * n) at (omega arith) (omega arith))
+    c.clause_status.ensures ∙ ap kind_of (part_status n _ c.args.len ws c.requires.coherent (row_at n (n + s) 1) (slot_count n ws s) (omega arith) (λ i h. c.requires.stored.ranged s i c.requires.within h)
+    start (start + c.slot_count-count.result - start) (4 * n - 3 * n) at (omega arith) (omega arith))

@@ -9,8 +9,8 @@ use Rattle.memory.proofs.Placing.{pushed, pushed_coherent, known_entry, known_pl
 use Rattle.memory.proofs.Storing.{places}
 use Rattle.memory.proofs.trail.lay.Goals as goal
 
-pub set-literal-requires : goal.set-literal-requires
-set-literal-requires c =
+pub set_literal-requires : goal.set_literal-requires
+set_literal-requires c =
     let n = c.args.layout.variables in
     let t = trail_of n c.args.len c.args.words.now in
     (room_for _ _ _ _ c.requires.coherent.formed (known_placeable n t c.args.literal c.args.code c.requires.unassigned c.requires.known), c.requires.coherent.big)
@@ -19,10 +19,10 @@ pub returns : goal.returns
 returns c =
     let f = c.ranges.literal in
     let g = c.ranges.code in
-    let x = c.index-of-x.ensures in
-    let a = simp to_z-of_z at c.set-literal.ensures in
-    let b = simp (to_z-of_z, x) at c.set-value.ensures in
-    let d = simp (to_z-of_z, x) at c.set-standing.ensures in
+    let x = c.index_of-x.ensures in
+    let a = simp to_z-of_z at c.set_literal.ensures in
+    let b = simp (to_z-of_z, x) at c.set_value.ensures in
+    let d = simp (to_z-of_z, x) at c.set_standing.ensures in
     let n = c.args.layout.variables in
     let l = c.args.literal in
     let t = trail_of n c.args.len c.args.words.now in
@@ -31,7 +31,7 @@ returns c =
     let r = room_for _ _ _ _ c.requires.coherent.formed p in
     let w = laid n _ l _ _ _ _ _ a b d r i in
     let e = known_entry n _ l _ w.at_standing c.requires.known in
-    let tr = pushed _ _ _ l _ _ _ c.requires.coherent c.requires.unassigned r w.touched w.at_trail w.at-value e in
-    let co = pushed_coherent _ _ _ l _ _ _ c.requires.coherent c.requires.unassigned r w.touched w.at_trail w.at-value e (search rules)
+    let tr = pushed _ _ _ l _ _ _ c.requires.coherent c.requires.unassigned r w.touched w.at_trail w.at_value e in
+    let co = pushed_coherent _ _ _ l _ _ _ c.requires.coherent c.requires.unassigned r w.touched w.at_trail w.at_value e (search rules)
     (rw (w.reason 1 (omega arith) (omega arith)) (c.requires.coherent.counts _ i)) p in
     record { places = places _ _ _ (index_of l) _ _ _ r i tr co w.touched; coherent = co; rest = w.touched }

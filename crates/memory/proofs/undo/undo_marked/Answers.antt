@@ -9,8 +9,8 @@ use Rattle.memory.proofs.undo.undo_marked.Goals.{then-marked, else-marked}
 pub loop-place-init : goal.loop-place-init
 loop-place-init c = (undone_none _ _, c.requires.coherent)
 
-pub index-at-x-requires : goal.index-at-x-requires
-index-at-x-requires c =
+pub index_at-x-requires : goal.index_at-x-requires
+index_at-x-requires c =
     let i = c.loop-place.invariant in
     let f = i.1.fits in
     let b = i.1.big in
@@ -21,8 +21,8 @@ index-at-x-requires c =
       ranged = subst (λ l. in_range n l ≡ true) (sym a) (place_at n _ _ i.1.formed _ c.loop-place-test.true).in_reach;
     }
 
-pub put-copy-requires : goal.put-copy-requires
-put-copy-requires c =
+pub put_copy-requires : goal.put_copy-requires
+put_copy-requires c =
     let i = c.loop-place.invariant in
     let f = i.1.fits in
     let g = i.0.fewer in
@@ -30,8 +30,8 @@ put-copy-requires c =
     let e : length c.loop-place.words ≡ length c.args.words.now = search rules in
     (omega arith, omega arith)
 
-pub overflow-add-left : goal.overflow-add-left
-overflow-add-left c = let i = c.loop-place.invariant in let f = i.1.fits in let g = i.0.fewer in search rules
+pub overflow_add-left : goal.overflow_add-left
+overflow_add-left c = let i = c.loop-place.invariant in let f = i.1.fits in let g = i.0.fewer in search rules
 
 pub loop-place-preserved : goal.loop-place-preserved
 loop-place-preserved c =
@@ -39,14 +39,14 @@ loop-place-preserved c =
     let f = i.1.fits in
     let n = c.args.layout.variables in
     let a = i.0.ahead c.loop-place.place (omega arith) (omega arith) in
-    let x = c.index-at-x.ensures.is ∙ ap index_of a in
-    let b = c.index-at-x.ensures.below in
-    let m = i.0.out.above (mark_at n c.index-at-x.result) (omega arith) in
+    let x = c.index_at-x.ensures.is ∙ ap index_of a in
+    let b = c.index_at-x.ensures.below in
+    let m = i.0.out.above (mark_at n c.index_at-x.result) (omega arith) in
     let t = c.marked.ensures ∙ ap (λ z. eqb (nat_abs z) 1) m in
     elim c.if-marked.branch [
-      | then-marked w ↦ rw (w.words-is, w.left-is) (undone_drop _ _ _ _ _ _ _ i.1 i.0 c.loop-place-test.true _ x _ (sym t ∙ w.if-marked.true) w.set-value.ensures, i.1)
+      | then-marked w ↦ rw (w.words-is, w.left-is) (undone_drop _ _ _ _ _ _ _ i.1 i.0 c.loop-place-test.true _ x _ (sym t ∙ w.if-marked.true) w.set_value.ensures, i.1)
       | else-marked w ↦
-          let v = rw a at w.put-copy.ensures in
+          let v = rw a at w.put_copy.ensures in
           rw (w.words-is, w.left-is) (undone_keep _ _ _ _ _ _ _ i.1 i.0 c.loop-place-test.true _ x _ (sym t ∙ w.if-marked.false) v, i.1)
     ]
 

@@ -10,4 +10,4 @@ returns c len st r =
     let n = c.args.layout.variables in
     let ws = c.args.words.now in
     let row = take (4 * n - 3 * n) (drop (3 * n) ws) in
-    c.value-of.ensures ∙ ap (value_in (true_in row)) (to_z-of_z w32 c.args.literal c.ranges.literal) ∙ value_is n _ len ws st row (part_values n _ len ws st) c.args.literal r
+    c.value_of.ensures ∙ ap (value_in (true_in row)) (to_z-of_z w32 c.args.literal c.ranges.literal) ∙ value_is n _ len ws st row (part_values n _ len ws st) c.args.literal r

@@ -11,8 +11,8 @@ use Rattle.memory.proofs.weigh.weigh_marked.Goals.{then-marked, else-marked}
 
 pub loop-place-preserved : goal.loop-place-preserved
 loop-place-preserved g c =
-    let zero = g.Weight.Scale.zero in
-    let plus = g.Weight.Scale.plus in
+    let zero = g.W.Weight.Scale.zero in
+    let plus = g.W.Weight.Scale.plus in
     let weight = g.W.Weigher.weight c.args.weigher.now in
     let n = c.args.layout.variables in
     let ws = c.args.words.now in
@@ -28,7 +28,7 @@ loop-place-preserved g c =
           let long = part_long ws (2 * n) k (omega arith) in
           let literal : to_z w32 (of_z w32 x) ≡ word_at ws (trail_at n p) = to_z-of_z w32 x fits ∙ part_word ws (2 * n) k p (omega (arith, c.loop-place-test.true)) in
           w.sum-is ∙ w.plus-sum.ensures ∙ ap (λ a. plus a w.weigh.result) c.loop-place.invariant
-          ∙ ap (plus _) (w.weigh.ensures ∙ ap weight (λ i. record { literal = literal i; standing = w.standing-at-standing.ensures i; place = p })) ∙ sym (total_in zero plus weight n ws (marked n ws) p m)
+          ∙ ap (plus _) (w.weigh.ensures ∙ ap weight (λ i. record { literal = literal i; standing = w.standing_at-standing.ensures i; place = p })) ∙ sym (total_in zero plus weight n ws (marked n ws) p m)
       | else-marked w ↦
           let m : marked n ws (word_at ws (trail_at n p)) ≡ false = search rules in
           w.sum-is ∙ c.loop-place.invariant ∙ sym (total_out zero plus weight n ws (marked n ws) p m)
@@ -36,8 +36,8 @@ loop-place-preserved g c =
 
 pub returns : goal.returns
 returns g c =
-    let zero = g.Weight.Scale.zero in
-    let plus = g.Weight.Scale.plus in
+    let zero = g.W.Weight.Scale.zero in
+    let plus = g.W.Weight.Scale.plus in
     let weight = g.W.Weigher.weight c.args.weigher.now in
     let n = c.args.layout.variables in
     let ws = c.args.words.now in

@@ -5,4 +5,4 @@ use Rattle.memory.specs.Decode.{trail_of, marked}
 use Rattle.memory.proofs.weigh.weigh_marked.Given as goal
 
 abbrev pub invariant-loop-place : goal.invariant-loop-place
-invariant-loop-place g l = l.sum ≡ total_weight g.Weight.Scale.zero g.Weight.Scale.plus (g.W.Weigher.weight l.weigher) (members (marked l.layout.variables l.words) (trail_of l.layout.variables l.place l.words))
+invariant-loop-place g l = l.sum ≡ total_weight g.W.Weight.Scale.zero g.W.Weight.Scale.plus (g.W.Weigher.weight l.weigher) (members (marked l.layout.variables l.words) (trail_of l.layout.variables l.place l.words))

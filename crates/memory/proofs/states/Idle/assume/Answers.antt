@@ -6,8 +6,8 @@ use Rattle.memory.specs.Sessions.{standing}
 use Rattle.memory.proofs.Calling.{standing_long, joined, joined_ranged, outside_promised, full_promised, joined_promised, outside_answer, full_answer, joined_answer}
 use Rattle.memory.proofs.states.Idle.assume.Goals as goal
 
-pub returns-then-not-is-in-range : goal.returns-then-not-is-in-range
-returns-then-not-is-in-range c =
+pub returns-then-not-is_in_range : goal.returns-then-not-is_in_range
+returns-then-not-is_in_range c =
     let s = c.args.self.now in
     let l = c.args.literal in
     let out : in_range s.layout.variables l ≡ false = search rules in
@@ -36,8 +36,8 @@ returns-then-self c =
       size = refl;
     }
 
-pub invariant-of-self : goal.invariant-of-self
-invariant-of-self c =
+pub invariant_of-self : goal.invariant_of-self
+invariant_of-self c =
     let s = c.args.self.now in
     let n = s.layout.variables in
     let l = c.args.literal in
@@ -46,7 +46,7 @@ invariant-of-self c =
     let few = c.if-self.false in
     let within : s.assumptions < length s.words.now = omega arith in
     let r' = subst (λ x. in_range n x ≡ true) (sym (to_z-of_z w32 l c.ranges.literal)) r in
-    (search rules, (omega arith, (joined_ranged n s.assumptions s.words.now (to_z w32 (of_z w32 l)) within s.ranged r', tt)))
+    record { room = search rules; few = omega arith; ranged = joined_ranged n s.assumptions s.words.now (to_z w32 (of_z w32 l)) within s.ranged r' }
 
 pub returns : goal.returns
 returns c =

@@ -6,10 +6,10 @@ use Rattle.memory.proofs.Calling.{all_ranged}
 use Rattle.memory.proofs.Promising.{promised}
 use Rattle.memory.proofs.states.Idle.begin.Goals as goal
 
-pub invariant-of-result : goal.invariant-of-result
-invariant-of-result c =
+pub invariant_of-result : goal.invariant_of-result
+invariant_of-result c =
     let s = c.args.self in
-    (∣ record { stands = c.empty.ensures.sound s.assumptions s.few (all_ranged s.layout.variables s.assumptions s.words.now s.ranged); denied = tt } ∣₁, tt)
+    record { alive = ∣ record { stands = c.empty.ensures.sound s.assumptions s.few (all_ranged s.layout.variables s.assumptions s.words.now s.ranged); denied = tt } ∣₁ }
 
 pub returns : goal.returns
 returns c =

@@ -12,7 +12,7 @@ pub returns-then-variables-layout : goal.returns-then-variables-layout
 returns-then-variables-layout g c =
     let s = c.args.self in
     let n = s.layout.variables in
-    let guide : Guide = record { source = g.S.Source.meaning c.args.source.now; preferences = c.args.preferences.now; weighing = by_total g.Weight.Order.at_most g.Weight.Scale.zero g.Weight.Scale.plus (g.W.Weigher.weight c.args.weigher.now) } in
+    let guide : Guide = record { source = g.S.Source.meaning c.args.source.now; preferences = c.args.preferences.now; weighing = by_total g.W.Weight.Order.at_most g.W.Weight.Scale.zero g.W.Weight.Scale.plus (g.W.Weigher.weight c.args.weigher.now) } in
     let bytes = length c.args.scratch.now in
     let other : guide.source.count ≡ n → ⊥ = λ e. c.if-variables-layout.true (c.variables.ensures.count ∙ e) in
     let refusal = other_count n guide.source.count bytes other in
@@ -28,7 +28,7 @@ pub returns-then-scratch-layout : goal.returns-then-scratch-layout
 returns-then-scratch-layout g c =
     let s = c.args.self in
     let n = s.layout.variables in
-    let guide : Guide = record { source = g.S.Source.meaning c.args.source.now; preferences = c.args.preferences.now; weighing = by_total g.Weight.Order.at_most g.Weight.Scale.zero g.Weight.Scale.plus (g.W.Weigher.weight c.args.weigher.now) } in
+    let guide : Guide = record { source = g.S.Source.meaning c.args.source.now; preferences = c.args.preferences.now; weighing = by_total g.W.Weight.Order.at_most g.W.Weight.Scale.zero g.W.Weight.Scale.plus (g.W.Weigher.weight c.args.weigher.now) } in
     let bytes = length c.args.scratch.now in
     let same = sym c.variables.ensures.count ∙ c.if-variables-layout.false in
     let refusal = short_scratch n guide.source.count bytes same c.if-scratch-layout.true in
@@ -40,21 +40,21 @@ returns-then-scratch-layout g c =
       size = refl;
     }
 
-pub returns-then-has-ended : goal.returns-then-has-ended
-returns-then-has-ended g c =
+pub returns-then-has_ended : goal.returns-then-has_ended
+returns-then-has_ended g c =
     let s = c.args.self in
     let n = s.layout.variables in
-    let guide : Guide = record { source = g.S.Source.meaning c.args.source.now; preferences = c.args.preferences.now; weighing = by_total g.Weight.Order.at_most g.Weight.Scale.zero g.Weight.Scale.plus (g.W.Weigher.weight c.args.weigher.now) } in
+    let guide : Guide = record { source = g.S.Source.meaning c.args.source.now; preferences = c.args.preferences.now; weighing = by_total g.W.Weight.Order.at_most g.W.Weight.Scale.zero g.W.Weight.Scale.plus (g.W.Weigher.weight c.args.weigher.now) } in
     let bytes = length c.args.scratch.now in
     let same = sym c.variables.ensures.count ∙ c.if-variables-layout.false in
     let refusal = no_refusal n guide.source.count bytes same c.if-scratch-layout.false in
     let cleared : c.fill.new.self ≡ replicate bytes 0 = search rules in
-    let over = sym c.if-has-ended.ensures in
+    let over = sym c.if-has_ended.ensures in
     record {
       promised = (
-        Ok c.without-steps.result,
+        Ok c.without_steps.result,
         refl,
-        again_promised n s.layout.slots c.args.limit guide bytes (searched s) c.variables.ensures.lawful same c.if-scratch-layout.false s.verdict refl over (report_of c.without-steps.result) c.without-steps.ensures.report,
+        again_promised n s.layout.slots c.args.limit guide bytes (searched s) c.variables.ensures.lawful same c.if-scratch-layout.false s.verdict refl over (report_of c.without_steps.result) c.without_steps.ensures.report,
       );
       refusal = sym refusal;
       scratch = cleared ∙ ap (λ o. scratch_after o c.args.scratch.now) (sym refusal);
@@ -76,19 +76,19 @@ drive-ran-requires g c =
       clear = cleared ∙ ap (λ k. replicate k 0) (sym long);
     }
 
-pub invariant-of-result-2 : goal.invariant-of-result-2
-invariant-of-result-2 g c = (∣ c.drive-ran.ensures.alive ∣₁, tt)
+pub invariant_of-result-2 : goal.invariant_of-result-2
+invariant_of-result-2 g c = record { alive = ∣ c.drive-ran.ensures.alive ∣₁ }
 
 pub returns : goal.returns
 returns g c =
     let s = c.args.self in
     let n = s.layout.variables in
-    let guide : Guide = record { source = g.S.Source.meaning c.args.source.now; preferences = c.args.preferences.now; weighing = by_total g.Weight.Order.at_most g.Weight.Scale.zero g.Weight.Scale.plus (g.W.Weigher.weight c.args.weigher.now) } in
+    let guide : Guide = record { source = g.S.Source.meaning c.args.source.now; preferences = c.args.preferences.now; weighing = by_total g.W.Weight.Order.at_most g.W.Weight.Scale.zero g.W.Weight.Scale.plus (g.W.Weigher.weight c.args.weigher.now) } in
     let bytes = length c.args.scratch.now in
     let same = sym c.variables.ensures.count ∙ c.if-variables-layout.false in
     let refusal = no_refusal n guide.source.count bytes same c.if-scratch-layout.false in
     let long : length c.fill.new.self ≡ bytes = search rules in
-    let under_way = sym c.if-has-ended.ensures in
+    let under_way = sym c.if-has_ended.ensures in
     record {
       promised = (
         Ok c.drive-ran.result.report,

@@ -12,8 +12,8 @@ bounds-self-number c =
     let big = a.stands.coherent.big in
     omega arith
 
-pub offset-bounds-self-number : goal.offset-bounds-self-number
-offset-bounds-self-number c =
+pub offset_bounds-self-number : goal.offset_bounds-self-number
+offset_bounds-self-number c =
     let s = c.args.self.now in
     let a = alive_of s.layout s.extent s.failed s.words.now s.alive in
     let h = subst (WithinCount s.extent.assumptions) c.in-Some.is a.denied in

@@ -7,11 +7,11 @@ use Rattle.memory.proofs.Promising.{promised}
 use Rattle.memory.proofs.Props.{alive_of}
 use Rattle.memory.proofs.states.Settled.reopen.Goals as goal
 
-pub invariant-of-result : goal.invariant-of-result
-invariant-of-result c =
+pub invariant_of-result : goal.invariant_of-result
+invariant_of-result c =
     let s = c.args.self in
     let so = (alive_of s.layout s.extent s.failed s.words.now s.alive).stands in
-    (so.coherent.big, (so.few, (ranged_all s.layout.variables s.extent.assumptions s.words.now so.ranged, tt)))
+    record { room = so.coherent.big; few = so.few; ranged = ranged_all s.layout.variables s.extent.assumptions s.words.now so.ranged }
 
 pub returns : goal.returns
 returns c =

@@ -8,8 +8,8 @@ use Rattle.memory.proofs.Props.{alive_of}
 use Rattle.memory.proofs.states.Settled.value.Goals as goal
 use Rattle.memory.proofs.states.Settled.value.Goals.{then-variable-eq0-via-then-variable-eq0, then-variable-eq0-via-else-variable-eq0+then-variable-self}
 
-pub returns-in-default : goal.returns-in-default
-returns-in-default c = let h = no_model_promised c.args.self.now c.args.variable c.in-default.not-Model in record { answer = h.0; promised = h.1 }
+pub returns-in_default : goal.returns-in_default
+returns-in_default c = let h = no_model_promised c.args.self.now c.args.variable c.in_default.not-Model in record { answer = h.0; promised = h.1 }
 
 pub returns-then-variable-eq0 : goal.returns-then-variable-eq0
 returns-then-variable-eq0 c =
@@ -23,8 +23,8 @@ returns-then-variable-eq0 c =
     let h = no_value_promised s v c.in-Model.is out in
     record { answer = h.0; promised = h.1 }
 
-pub is-true-requires : goal.is-true-requires
-is-true-requires c =
+pub is_true-requires : goal.is_true-requires
+is_true-requires c =
     let s = c.args.self.now in
     let some = c.if-variable-eq0.false in
     let most = c.if-variable-self.false in
@@ -41,5 +41,5 @@ returns c =
     let r = bounds_range n (pos v) low most in
     let next : suc (v - 1) ≡ v = omega arith in
     let so = (alive_of s.layout s.extent s.failed s.words.now s.alive).stands in
-    let h = value_promised s v c.in-Model.is r c.is-true.result (c.is-true.ensures s.extent.trail so.coherent ∙ ap (λ w. on (trail_of n s.extent.trail s.words.now) (pos w)) next) in
+    let h = value_promised s v c.in-Model.is r c.is_true.result (c.is_true.ensures s.extent.trail so.coherent ∙ ap (λ w. on (trail_of n s.extent.trail s.words.now) (pos w)) next) in
     record { answer = h.0; promised = h.1 }
