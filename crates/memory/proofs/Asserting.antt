@@ -1,7 +1,7 @@
 -- A unit clause: its literal is the first that has no value, and may be placed.
-use Rattle.std.proofs.Common.{◌≡◌, ℕ, zero, suc, ◌+◌, ◌<◌, ◌≤◌, Bool, true, false, cond, not, ◌&&◌, eqb, List, ℤ, pos, negsuc, neg_ℤ, nat_abs, All, sym, refl, ap, ◌∙◌, subst, inl, inr, arith}
+use Rattle.std.proofs.Common.{◌≡◌, ℕ, zero, suc, ◌+◌, ◌<◌, ◌≤◌, true, false, not, eqb, List, ℤ, pos, negsuc, neg_ℤ, nat_abs, All, sym, refl, ap, ◌∙◌, subst, inl, inr, arith}
 use mathlib.Core.Bool.{false≢true}
-use Rattle.std.proofs.lemmas.Bool.{ne_eqb, ltb-true, cases_Bool, both_ways, not-true, and_parts, and_from, not_from_false}
+use Rattle.std.proofs.lemmas.Bool.{ltb-true, cases_Bool, both_ways, not-true, and_parts, and_from, not_from_false}
 use Rattle.rules.specs.Literals.{var, same, in_range, has}
 use Rattle.rules.specs.Clauses.{Status, Status.falsified, Status.unit, Status.other, status, is_unit}
 use Rattle.rules.proofs.Literals.{same_true, all_has, has_all, has_any}

@@ -11,7 +11,7 @@ use Rattle.rules.proofs.GroupTells.{pass_getD}
 use Rattle.rules.proofs.RowLaws.{pass_push}
 use Rattle.theory.specs.Trail.{Trail, on, assumed_literals}
 use Rattle.theory.specs.Search.{Verdict.model, Verdict.refuted}
-use Rattle.theory.specs.Calls.{Call.assume, Call.value, Call.named, Reply.done, Reply.said, Reply.refused, State.idle, State.settled, Next.assumes, Next.assumes_outside, Next.assumes_full, Next.values, Next.values_without, Next.values_outside, Next.names, Next.names_without, Next.names_outside}
+use Rattle.theory.specs.Calls.{Call.assume, Call.value, Call.named, Reply.done, Reply.said, Reply.refused, State.idle, Next.assumes, Next.assumes_outside, Next.assumes_full, Next.values, Next.values_without, Next.values_outside, Next.names, Next.names_without, Next.names_outside}
 use Rattle.memory.specs.Words.{word_at}
 use Rattle.memory.specs.Decode.{assumptions_of, trail_of, marked}
 use Rattle.memory.specs.Reports.{verdict_of}

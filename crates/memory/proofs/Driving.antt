@@ -1,5 +1,5 @@
 -- The steps of a run, one after another.
-use Rattle.std.proofs.Common.{◌≡◌, ℕ, suc, ◌+◌, ◌-◌, ◌<◌, ◌≤◌, List, [], length, ℤ, sym, refl, ap, ◌∙◌, subst, arith}
+use Rattle.std.proofs.Common.{◌≡◌, ℕ, suc, ◌<◌, List, [], length, ℤ, sym, refl, ap, ◌∙◌, subst}
 use Rattle.rules.proofs.Statuses.{falsified_all}
 use Rattle.theory.specs.Trail.{Entry.assumed, Entry.decided, Entry.implied, on}
 use Rattle.theory.specs.Chunks.{chunk}

@@ -1,5 +1,5 @@
 -- What a search ends as: the marks tell what is named.
-use Rattle.std.proofs.Common.{◌≡◌, ℕ, ◌+◌, ◌*◌, ◌<◌, ◌≤◌, true, List, [], ◌∷◌, length, ℤ, neg_ℤ, Some, None, filter, Option, sym, refl, ap, ◌∙◌, subst, arith}
+use Rattle.std.proofs.Common.{◌≡◌, ℕ, ◌*◌, ◌<◌, ◌≤◌, true, List, [], ◌∷◌, length, ℤ, neg_ℤ, Some, None, filter, Option, sym, refl, ap, ◌∙◌, subst, arith}
 use mathlib.Core.Bool.{or-false}
 use Rattle.rules.specs.Clauses.{Status.falsified, status}
 use Rattle.rules.proofs.Statuses.{kept_cong}
@@ -7,14 +7,14 @@ use Rattle.theory.specs.Trail.{Trail, on, assumed_literals}
 use Rattle.theory.specs.Chunks.{in_chunk, touches}
 use Rattle.theory.specs.Search.{Verdict.refuted}
 use Rattle.memory.specs.Words.{word_at, clause_at, Wrote, Outside}
-use Rattle.memory.specs.Decode.{trail_of, clause_of, marked}
+use Rattle.memory.specs.Decode.{clause_of, marked}
 use Rattle.memory.specs.Learned.{WithinCount}
 use Rattle.memory.specs.Plans.{trail_at, position_at, Standing}
 use Rattle.memory.specs.Searches.{with_failed, search_at, Alive}
 use Rattle.memory.specs.declared.layout.Layout.{Layout}
 use Rattle.memory.specs.declared.layout.Extent.{Extent}
 use Rattle.memory.specs.declared.report.Verdict.TheVariants.{Refuted}
-use Rattle.memory.proofs.Words.{outside_none, outside_more, outside_both, outside_wider}
+use Rattle.memory.proofs.Words.{outside_none, outside_more}
 use Rattle.memory.proofs.Decode.{outside_trail}
 use Rattle.memory.proofs.Planning.{margin_sound, margin_position}
 

@@ -4,7 +4,7 @@ use mathlib.Core.Bool.{false≢true}
 use Rattle.std.proofs.lemmas.Bool.{cond_both, or_parts, both_ways}
 use Rattle.rules.specs.Literals.{same}
 use Rattle.rules.proofs.Literals.{same_true, eq_same, all_has, has_all}
-use Rattle.theory.specs.Trail.{Entry, Entry.assumed, Entry.decided, Entry.implied, Trail, literal, on, Grounded}
+use Rattle.theory.specs.Trail.{Entry, Entry.assumed, Entry.decided, Entry.implied, Trail, on, Grounded}
 use Rattle.theory.specs.Chunks.{joins, in_chunk}
 use Rattle.theory.proofs.Trails.{AllFalse, meets, meets_cong, on_range}
 use Rattle.memory.specs.Words.{word_at, index_of, trail_at, mark_at, row_at, Wrote, Outside}

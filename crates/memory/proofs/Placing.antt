@@ -2,7 +2,7 @@
 use Rattle.std.proofs.Common.{◌≡◌, ℕ, zero, suc, ◌+◌, ◌<◌, ◌≤◌, true, false, cond, ◌||◌, eqb, ◌≢◌, ◌⊎◌, List, [], ◌∷◌, length, ℤ, pos, negsuc, neg_ℤ, sym, refl, ap, ◌∙◌, subst, inl, inr, add-one, arith}
 use Rattle.std.proofs.lemmas.Bool.{cond_both, eqb-true, eqb-false, eq-eqb, ne_eqb, cases_eq}
 use Rattle.rules.specs.Literals.{var, same}
-use Rattle.theory.specs.Trail.{Entry, Entry.assumed, Entry.decided, Trail, literal, on, free, Placeable, WellFormed, word}
+use Rattle.theory.specs.Trail.{Entry, Trail, literal, on, free, Placeable, WellFormed, word}
 use Rattle.theory.proofs.Trails.{free_parts}
 use Rattle.memory.specs.Words.{word_at, index_of, trail_at, value_at, row_at, Wrote, Touched}
 use Rattle.memory.specs.Decode.{as_entry, reason_count, entry_of, trail_of, Coherent}

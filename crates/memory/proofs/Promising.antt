@@ -1,12 +1,12 @@
 -- What follows from the rule of a call: the promise for every list of calls that led to it.
-use Rattle.std.proofs.Common.{◌≡◌, ℕ, true, false, cond, List, [], ◌∷◌, All}
+use Rattle.std.proofs.Common.{ℕ, List, [], ◌∷◌, All}
 use Rattle.std.proofs.lemmas.List.Elements.{All-nil, All-cons, All-head, All-tail}
 use Rattle.std.proofs.lemmas.Bool.{cond_both}
 use Rattle.rules.specs.Sources.{Lawful}
 use Rattle.theory.specs.Search.{ended}
 use Rattle.theory.specs.Calls.{Call, Reply, State, Next}
 use Rattle.theory.specs.Events.{Event, Grant, View, View.joined, View.cleared, View.began, View.ran, View.other, view, of_run, runs_after, granted_runs, latest_verdict, looking, EachRun}
-use Rattle.theory.specs.Promise.{History, History.more, LawfulRuns}
+use Rattle.theory.specs.Promise.{History.more, LawfulRuns}
 use Rattle.theory.proofs.Theorem.{promise_kept}
 use Rattle.memory.specs.Sessions.{Lived, Promised}
 

@@ -1,5 +1,5 @@
 -- A session's states, what each stands for, and what is promised of each of its calls.
-use Rattle.std.specs.Prelude.{◌≡◌, ℕ, ◌*◌, ◌<◌, Bool, true, false, cond, ◌&&◌, List, [], ◌∷◌, length, replicate, ℤ, pos, Some, None, Ok, Err, Option, Result, ◌==◌, nat_le, nat_lt}
+use Rattle.std.specs.Prelude.{ℕ, ◌*◌, ◌<◌, Bool, true, false, cond, ◌&&◌, List, ◌∷◌, length, replicate, ℤ, pos, Some, None, Ok, Err, Option, Result, ◌==◌, nat_le, nat_lt}
 use Rattle.rules.specs.Literals.{in_range, has}
 use Rattle.rules.specs.Sources.{makes, assignment, Lawful}
 use Rattle.theory.specs.Trail.{on}

@@ -1,5 +1,5 @@
 -- Going over the groups of a book for what it tells.
-use Rattle.std.proofs.Common.{◌≡◌, ℕ, zero, suc, ◌+◌, ◌-◌, ◌<◌, ◌≤◌, min, Bool, true, false, cond, not, ◌&&◌, ◌⊎◌, List, [], ◌∷◌, ◌++◌, map, length, get_or, take, drop, set, ℤ, pos, negsuc, neg_ℤ, nat_abs, Some, None, filter, Option, sym, refl, ap, ◌∙◌, subst, inl, inr, arith, take_all, w32, SFits}
+use Rattle.std.proofs.Common.{◌≡◌, ℕ, zero, suc, ◌+◌, ◌<◌, ◌≤◌, min, Bool, true, false, cond, not, ◌&&◌, ◌⊎◌, List, [], ◌∷◌, ◌++◌, map, length, get_or, take, drop, set, ℤ, pos, negsuc, neg_ℤ, nat_abs, Some, None, filter, Option, sym, refl, ap, ◌∙◌, subst, inl, inr, arith, take_all, w32, SFits}
 use mathlib.Core.Bool.{false≢true}
 use Rattle.std.specs.List.{list_all}
 use Rattle.std.proofs.lemmas.List.Elements.{filter-append, filter_more}

@@ -1,5 +1,5 @@
 -- A step that places a literal keeps what a search keeps, and raises the potential.
-use Rattle.std.proofs.Common.{◌≡◌, ℕ, ◌-◌, ◌<◌, Bool, true, false, not, ◌⊎◌, List, [], ◌∷◌, ℤ, neg_ℤ, Some, All, sym, ◌∙◌, subst, inl, inr, arith}
+use Rattle.std.proofs.Common.{◌≡◌, ℕ, ◌<◌, Bool, true, false, not, ◌⊎◌, List, ◌∷◌, ℤ, neg_ℤ, Some, All, sym, ◌∙◌, subst, inl, inr, arith}
 use Rattle.std.proofs.lemmas.List.Elements.{All-weaker}
 use Rattle.std.proofs.lemmas.Bool.{or_cases, both_ways, not-true, not-false}
 use Rattle.rules.specs.Literals.{same, in_range, has}
@@ -11,7 +11,7 @@ use Rattle.theory.specs.Trail.{Entry, Entry.assumed, Entry.decided, Entry.implie
 use Rattle.theory.specs.Look.{Position, First, NonePass, Look}
 use Rattle.theory.specs.Conflict.{others_of}
 use Rattle.theory.specs.Search.{missing, placed}
-use Rattle.theory.proofs.Trails.{ranged, fresh, parts_free, apart, on_below}
+use Rattle.theory.proofs.Trails.{fresh, parts_free, apart, on_below}
 use Rattle.theory.proofs.Levels.{decisions, level, entry_level, level_below, level_most}
 use Rattle.theory.proofs.Measure.{worth_positive}
 use Rattle.theory.proofs.Invariant.{Settled, Orderly, potential, first_passes, first_has, look_ranged}

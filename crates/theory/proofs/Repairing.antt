@@ -11,7 +11,7 @@ use Rattle.theory.specs.Trail.{Entry, Entry.assumed, Entry.decided, Entry.implie
 use Rattle.theory.specs.Chunks.{in_chunk, members, chunk, without_chunk, standing}
 use Rattle.theory.specs.Look.{Position}
 use Rattle.theory.specs.Conflict.{Touched, slot_empty, choice_free, Allowed, Analysed, literals_from, learned, others_of, repaired}
-use Rattle.theory.proofs.Trails.{ranged, fresh, parts_free, apart, on_below, on_range}
+use Rattle.theory.proofs.Trails.{fresh, parts_free, apart, on_below, on_range}
 use Rattle.theory.proofs.Levels.{decisions, level, highest, highest_has, highest_below, lowered, in_rank, rank_level, level_rank, level_below, level_most, level_without, decisions_length, without_rank}
 use Rattle.theory.proofs.Measure.{worth, worth_falls, worth_positive, measure, measure_without, measure_most}
 use Rattle.theory.proofs.Pigeonhole.{length_most}

@@ -1,5 +1,5 @@
 -- The calls determine the answers.
-use Rattle.std.proofs.Common.{◌≡◌, ℕ, List, [], ◌∷◌, map, length, pos, sym, refl, ap, subst, arith}
+use Rattle.std.proofs.Common.{◌≡◌, ℕ, List, ◌∷◌, map, length, pos, sym, refl, ap, subst, arith}
 use Rattle.std.proofs.lemmas.Bool.{both_ways}
 use Rattle.rules.specs.Literals.{in_range}
 use Rattle.theory.specs.Calls.{Call, Reply, State, Next, Next.assumes, Next.assumes_outside, Next.assumes_full, Next.clears, Next.begins, Next.closes, Next.runs, Next.runs_other, Next.runs_short, Next.settles, Next.finds, Next.values, Next.values_without, Next.values_outside, Next.names, Next.names_without, Next.names_outside, Next.reopens}

@@ -1,5 +1,5 @@
 -- What every admitted assignment satisfies: the analysis keeps it, and at level 0 it makes literals true.
-use Rattle.std.proofs.Common.{◌≡◌, ℕ, ◌-◌, ◌≤◌, Bool, true, false, not, ◌&&◌, List, [], ◌∷◌, ℤ, neg_ℤ, sym, ap, ◌∙◌, subst, inl, inr, arith}
+use Rattle.std.proofs.Common.{◌≡◌, ℕ, ◌≤◌, Bool, true, false, not, ◌&&◌, List, [], ◌∷◌, ℤ, neg_ℤ, sym, ap, ◌∙◌, subst, inl, inr, arith}
 use mathlib.Core.Bool.{false≢true}
 use lib.IntN.{neg_ℤ-neg_ℤ}
 use Rattle.rules.proofs.Valuations.{makes_neg}

@@ -1,5 +1,5 @@
 -- Every step keeps what a search keeps and what the source entails, and raises the potential.
-use Rattle.std.proofs.Common.{◌≡◌, ℕ, ◌+◌, ◌-◌, Bool, true, not, List, [], ◌∷◌, ◌++◌, ℤ, pos, Some, All, filter, inl, inr}
+use Rattle.std.proofs.Common.{◌≡◌, ℕ, Bool, true, not, List, [], ◌∷◌, ◌++◌, ℤ, pos, Some, All, filter, inl, inr}
 use Rattle.std.proofs.lemmas.List.Elements.{All-push}
 use Rattle.std.proofs.lemmas.Bool.{cond_both, or_left, cases_Bool, not_from_false}
 use Rattle.rules.specs.Literals.{same, has}

@@ -1,5 +1,5 @@
 -- Where a search stands, and what a look finds there.
-use Rattle.std.specs.Prelude.{◌≡◌, ℕ, Bool, true, false, List, [], ◌∷◌, ℤ, Some, None, All, Option}
+use Rattle.std.specs.Prelude.{◌≡◌, ℕ, Bool, true, false, List, ◌∷◌, ℤ, Some, None, All, Option}
 use Rattle.rules.specs.Clauses.{status, is_falsified, is_unit}
 use Rattle.rules.specs.Sources.{Answer.silent, Answer.tells, Meaning}
 use Rattle.theory.specs.Trail.{Trail, on, valuation}

@@ -1,4 +1,4 @@
-use Rattle.std.proofs.Common.{◌+◌, ◌-◌, ◌||◌, sym, ap, ◌∙◌, subst, arith, rules}
+use Rattle.std.proofs.Common.{◌+◌, ◌||◌, sym, ap, ◌∙◌, subst, arith, rules}
 use Rattle.theory.proofs.Trails.{AllFalse}
 use Rattle.memory.specs.Words.{words_from, row_at}
 use Rattle.memory.specs.Decode.{reason_count, trail_of, marked_index}

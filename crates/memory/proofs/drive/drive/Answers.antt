@@ -1,11 +1,10 @@
-use Rattle.std.proofs.Common.{◌≡◌, suc, ◌-◌, ◌<◌, ◌≤◌, length, replicate, None, sym, ap, ◌∙◌, subst, arith}
+use Rattle.std.proofs.Common.{◌-◌, ◌<◌, replicate, None, sym, ap, ◌∙◌, subst, arith}
 use Rattle.theory.specs.Search.{Guide}
-use Rattle.theory.specs.Run.{Search, no_steps, added, Goes}
+use Rattle.theory.specs.Run.{no_steps, added, Goes}
 use Rattle.memory.specs.Candidates.{by_total}
 use Rattle.memory.specs.Reports.{kind_of, report_of}
-use Rattle.memory.specs.Plans.{position_at, Standing, Ready, Taken, verdict_at, names_at}
+use Rattle.memory.specs.Plans.{position_at, verdict_at, names_at}
 use Rattle.memory.specs.Searches.{search_at}
-use Rattle.memory.specs.declared.report.Verdict.TheVariants.{Paused}
 use Rattle.memory.proofs.Driving.{Onward, onward_step, onward_end, onward_pause, ready_kind}
 use Rattle.memory.proofs.drive.drive.Goals as goal
 

@@ -1,5 +1,4 @@
 use Rattle.std.proofs.Common.{◌≡◌, ◌-◌, ◌≤◌, length, replicate}
-use Rattle.theory.specs.Search.{Guide}
 use Rattle.memory.specs.Candidates.{by_total}
 use Rattle.memory.specs.Reports.{report_of, Sized}
 use Rattle.memory.specs.Plans.{position_at, Standing}

@@ -1,8 +1,6 @@
-use Rattle.std.proofs.Common.{◌≡◌, ◌*◌, Some, None, sym, ap, ◌∙◌, subst, arith, rules}
-use Rattle.theory.specs.Run.{Search}
+use Rattle.std.proofs.Common.{◌≡◌, ◌*◌, Some, None, sym, subst, arith, rules}
 use Rattle.memory.specs.Plans.{position_at, Conclusive, verdict_at, names_at}
 use Rattle.memory.specs.Searches.{search_at}
-use Rattle.memory.specs.declared.plan.End.{End}
 use Rattle.memory.specs.declared.report.Verdict.TheVariants.{Refuted}
 use Rattle.memory.proofs.Words.{outside_both, outside_wider}
 use Rattle.memory.proofs.Decode.{outside_coherent}

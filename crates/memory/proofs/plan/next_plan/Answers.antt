@@ -1,8 +1,8 @@
-use Rattle.std.proofs.Common.{◌≡◌, ◌*◌, Some, None, sym, refl, ◌∙◌, subst, arith, rules}
+use Rattle.std.proofs.Common.{◌*◌, Some, None, sym, refl, ◌∙◌, subst, arith, rules}
 use Rattle.theory.specs.Look.{Look}
 use Rattle.theory.specs.Search.{Guide}
 use Rattle.theory.proofs.Looking.{look_looks}
-use Rattle.memory.specs.Decode.{trail_of, clause_of}
+use Rattle.memory.specs.Decode.{clause_of}
 use Rattle.memory.specs.Finding.{FoundWhole}
 use Rattle.memory.specs.Candidates.{by_total}
 use Rattle.memory.specs.Plans.{position_at}

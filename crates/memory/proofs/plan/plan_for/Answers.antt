@@ -1,4 +1,4 @@
-use Rattle.std.proofs.Common.{◌≡◌, ◌*◌, sym, refl, subst, arith, rules}
+use Rattle.std.proofs.Common.{◌*◌, sym, refl, subst, arith, rules}
 use Rattle.theory.specs.Trail.{Entry.implied}
 use Rattle.theory.specs.Conflict.{others_of, Chosen}
 use Rattle.theory.specs.Search.{Kind.implying, Step.imply}

@@ -1,9 +1,9 @@
-use Rattle.std.proofs.Common.{◌≡◌, true, sym, ◌∙◌, subst, w32, SFits, rules}
+use Rattle.std.proofs.Common.{sym, ◌∙◌, subst, w32, SFits, rules}
 use Rattle.std.proofs.lemmas.Int.{to_z-of_z}
 use Rattle.theory.specs.Trail.{Entry.decided}
 use Rattle.theory.specs.Search.{Kind.deciding}
 use Rattle.memory.specs.Deciding.{Decides}
-use Rattle.memory.specs.Plans.{trail_at, position_at}
+use Rattle.memory.specs.Plans.{position_at}
 use Rattle.memory.proofs.Planning.{placing_step, denial_planned, assumption_planned, decision_step, completion}
 use Rattle.memory.proofs.plan.plan_without.Goals as goal
 

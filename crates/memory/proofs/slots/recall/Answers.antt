@@ -1,6 +1,5 @@
 use Rattle.std.proofs.Common.{◌+◌, ◌*◌, sym, ap, ◌∙◌, inr, arith}
 use Rattle.memory.specs.Words.{words_from, row_at}
-use Rattle.memory.specs.Decode.{slot_count}
 use Rattle.memory.proofs.Words.{outside_wider}
 use Rattle.memory.proofs.slots.recall.Goals as goal
 

@@ -1,7 +1,6 @@
 use Rattle.std.proofs.Common.{◌≡◌, ◌*◌, ◌<◌, ◌≤◌, true, false, [], ◌∷◌, ◌++◌, length, sym, refl, ap, ◌∙◌, subst, arith, w32, to_z, of_z, rules}
 use Rattle.std.proofs.lemmas.Int.{to_z-of_z}
 use Rattle.rules.specs.Literals.{in_range}
-use Rattle.memory.specs.Decode.{assumptions_of}
 use Rattle.memory.specs.Sessions.{standing}
 use Rattle.memory.proofs.Calling.{standing_long, joined, joined_ranged, outside_promised, full_promised, joined_promised, outside_answer, full_answer, joined_answer}
 use Rattle.memory.proofs.states.Idle.assume.Goals as goal

@@ -1,6 +1,5 @@
-use Rattle.std.proofs.Common.{◌≡◌, [], sym, refl, ap, subst, rules}
+use Rattle.std.proofs.Common.{sym, refl, ap, subst, rules}
 use Rattle.theory.specs.Calls.{Call.begin, Reply.done, State.searching, begun, Next.begins}
-use Rattle.memory.specs.Decode.{assumptions_of}
 use Rattle.memory.specs.Sessions.{standing, idle_state, Promised}
 use Rattle.memory.proofs.Calling.{all_ranged}
 use Rattle.memory.proofs.Promising.{promised}

@@ -1,4 +1,4 @@
-use Rattle.std.proofs.Common.{ℕ, [], refl}
+use Rattle.std.proofs.Common.{[], refl}
 use Rattle.theory.specs.Calls.{Call.clear, Reply.done, State.idle, Next.clears}
 use Rattle.memory.specs.Sessions.{idle_state}
 use Rattle.memory.proofs.Promising.{promised}

@@ -1,4 +1,3 @@
-use Rattle.std.proofs.Common.{refl}
 use Rattle.theory.specs.Calls.{Call.close, Reply.done, State.closed, Next.closes}
 use Rattle.memory.specs.Sessions.{idle_state}
 use Rattle.memory.proofs.Promising.{promised}

@@ -1,7 +1,7 @@
-use Rattle.std.proofs.Common.{◌≡◌, ◌<◌, ◌≤◌, true, false, length, replicate, Ok, Err, sym, refl, ap, ◌∙◌, subst, arith, rules}
+use Rattle.std.proofs.Common.{◌≡◌, length, replicate, Ok, Err, sym, refl, ap, ◌∙◌, arith, rules}
 use Rattle.theory.specs.Search.{Guide}
 use Rattle.memory.specs.Candidates.{by_total}
-use Rattle.memory.specs.Reports.{report_of, has_ended}
+use Rattle.memory.specs.Reports.{report_of}
 use Rattle.memory.specs.Sessions.{searched, scratch_after}
 use Rattle.memory.specs.declared.report.Refusal.TheVariants.{OtherCount, ShortScratch}
 use Rattle.memory.proofs.Props.{alive_of}

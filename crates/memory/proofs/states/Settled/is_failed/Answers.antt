@@ -1,4 +1,4 @@
-use Rattle.std.proofs.Common.{◌≡◌, ◌*◌, ◌<◌, ◌≤◌, length, subst, arith, rules}
+use Rattle.std.proofs.Common.{◌≤◌, subst, arith, rules}
 use Rattle.memory.specs.Learned.{WithinCount}
 use Rattle.memory.proofs.Props.{alive_of}
 use Rattle.memory.proofs.states.Settled.is_failed.Goals as goal

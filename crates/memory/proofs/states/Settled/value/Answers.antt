@@ -1,4 +1,4 @@
-use Rattle.std.proofs.Common.{◌≡◌, suc, ◌-◌, ◌<◌, ◌≤◌, true, false, pos, ap, ◌∙◌, arith, rules}
+use Rattle.std.proofs.Common.{◌≡◌, suc, ◌-◌, ◌≤◌, false, pos, ap, ◌∙◌, arith}
 use Rattle.rules.specs.Literals.{in_range}
 use Rattle.rules.proofs.Literals.{bounds_range}
 use Rattle.theory.specs.Trail.{on}
