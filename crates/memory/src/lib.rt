@@ -1,8 +1,8 @@
-//! The words of a session, and what a search does on them: placing literals, marking chunks, analysis, undoing, slots, and the
-//! whole repair of a conflict.
+//! The calls of a session, the words that it lives in, and what a search does on them: look, choice, weighing, analysis, undoing,
+//! placing and learning.
 //!
-//! Nothing here is public: these functions ask that the words stand for a position, and the calls of a session, which are
-//! to be built on them, will ask nothing.
+//! Public are the states of a session with their calls, and what these answer. The other functions ask that the words stand for a
+//! position; a call asks nothing.
 #![tactic(auto)]
 
 mod analysis;
