@@ -1,6 +1,7 @@
 -- What a text shows are parts of the text itself.
 use Rattle.std.proofs.Common.{◌≡◌, ℕ, ◌+◌, ◌≤◌, Bool, true, false, cond, eqb, List, [], ◌∷◌, ◌++◌, length, take, drop, ℤ, Some, None, Ok, Err, All, Option, Result, sym, refl, ap, ◌∙◌, append_assoc, append-nil, arith}
 use Rattle.std.proofs.lemmas.List.{length-append, length_push, take_at, drop_at}
+use Rattle.std.proofs.lemmas.List.Elements.{All-nil, All-cons}
 use Rattle.std.proofs.lemmas.Bool.{eqb-true, both_ways}
 use Rattle.rulefile.specs.Bytes.{class_of}
 use Rattle.rulefile.specs.declared.bytes.Class.{Class}
@@ -85,11 +86,16 @@ module _ (text : List ℕ) where
     within_byte w a (before, is, at) None q =
         ih (within (w ++ (b ∷ [])) a) l (p + 1) (behind_word_byte front b l p (passed_stop Inside b q) h) (before, ap (λ k. k ++ (b ∷ [])) is ∙ append_assoc before w (b ∷ []), at)
     within_byte w a (before, is, at) (Some n) q =
-        (word_stands before w (b ∷ bs) a (e ∙ ap (λ k. k ++ (b ∷ bs)) is ∙ append_assoc before w (b ∷ bs)) at, ih (between n) (line_after l b) (p + 1) (behind_byte front b l p h) tt)
+        All-cons (Shows text) (word_seen w a) (shown (between n) (p + 1) (line_after l b) bs) (word_stands before w (b ∷ bs) a (e ∙ ap (λ k. k ++ (b ∷ bs)) is ∙ append_assoc before w (b ∷ bs)) at)
+            (ih (between n) (line_after l b) (p + 1) (behind_byte front b l p h) tt)
+
+  end_shows : (front : List ℕ) (l p : ℕ) → text ≡ front ++ [] → Behind front l p → All (Shows text) (end (position l p) ∷ [])
+  end_shows front l p e h = All-cons (Shows text) (end (position l p)) [] (end_stands front l p e h) (All-nil (Shows text))
 
   walk_shows : (bs front : List ℕ) → text ≡ front ++ bs → (st : At) (l p : ℕ) → Behind front l p → Walks st front → All (Shows text) (shown st p l bs)
-  walk_shows [] front e (between m) l p h w = (end_stands front l p e h, tt)
-  walk_shows [] front e (within w a) l p h (before, is, at) = (word_stands before w [] a (e ∙ ap (λ k. k ++ []) is ∙ append_assoc before w []) at, (end_stands front l p e h, tt))
+  walk_shows [] front e (between m) l p h w = end_shows front l p e h
+  walk_shows [] front e (within w a) l p h (before, is, at) =
+      All-cons (Shows text) (word_seen w a) (end (position l p) ∷ []) (word_stands before w [] a (e ∙ ap (λ k. k ++ []) is ∙ append_assoc before w []) at) (end_shows front l p e h)
   walk_shows (b ∷ bs) front e (between m) l p h w = between_byte b bs front e l p h (walk_shows bs (front ++ (b ∷ [])) (e ∙ sym (append_assoc front (b ∷ []) bs))) m (passed m b) refl
   walk_shows (b ∷ bs) front e (within w a) l p h k = within_byte b bs front e l p h (walk_shows bs (front ++ (b ∷ [])) (e ∙ sym (append_assoc front (b ∷ []) bs))) w a k (passed Inside b) refl
 

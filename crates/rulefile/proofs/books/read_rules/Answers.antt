@@ -37,20 +37,20 @@ overflow_sub-left c =
     let starts : start_next n ts ≡ Ok (S.Clause c.in-Clause.first, ahead c.next_start.new.reader) = search rules in
     clause_left (books c.loop-first.clauses c.loop-first.groups) n ts _ _ starts
 
-pub loop-first-smaller-in-Continue·-branch-3 : goal.loop-first-smaller-in-Continue·-branch-3
-loop-first-smaller-in-Continue·-branch-3 c =
+pub loop-first-smaller-in-Continue-branch-3 : goal.loop-first-smaller-in-Continue-branch-3
+loop-first-smaller-in-Continue-branch-3 c =
     let n = c.loop-first.left in
     let ts = ahead c.loop-first.reader in
     let starts : start_next n ts ≡ Ok (S.Clause c.in-Clause.first, ahead c.next_start.new.reader) = search rules in
-    (clause_on (books c.loop-first.clauses c.loop-first.groups) n ts _ _ starts _ _ c.in-ok-read-clause.ensures.read).0
+    (clause_on (books c.loop-first.clauses c.loop-first.groups) n ts _ _ starts _ _ c.in_ok-read_clause-in-Clause.ensures.read).0
 
-pub loop-first-preserved-in-Continue·-branch-3 : goal.loop-first-preserved-in-Continue·-branch-3
-loop-first-preserved-in-Continue·-branch-3 c =
+pub loop-first-preserved-in-Continue-branch-3 : goal.loop-first-preserved-in-Continue-branch-3
+loop-first-preserved-in-Continue-branch-3 c =
     let b = books c.loop-first.clauses c.loop-first.groups in
     let n = c.loop-first.left in
     let ts = ahead c.loop-first.reader in
     let starts : start_next n ts ≡ Ok (S.Clause c.in-Clause.first, ahead c.next_start.new.reader) = search rules in
-    let e = c.in-ok-read-clause.ensures in
+    let e = c.in_ok-read_clause-in-Clause.ensures in
     let d = C.filling c.read_clause.new.book in (
       (clause_on b n ts _ _ starts d _ e.read).1,
       c.loop-first.invariant.1,
@@ -58,17 +58,17 @@ loop-first-preserved-in-Continue·-branch-3 c =
       record { clauses = e.sized ∙ c.loop-first.invariant.3.clauses; groups = c.loop-first.invariant.3.groups },
     )
 
-pub returns-in-err-read-clause : goal.returns-in-err-read-clause
-returns-in-err-read-clause c =
-    let p = err_from_is_err_and c.from-residual-in-err-read-clause.result c.from-residual-in-err-read-clause.ensures.1 in
+pub returns-in_err-read_clause-in-Clause : goal.returns-in_err-read_clause-in-Clause
+returns-in_err-read_clause-in-Clause c =
+    let p = err_from_is_err_and c.from_residual-in_err-read_clause-in-Clause.result c.from_residual-in_err-read_clause-in-Clause.ensures.1 in
     let n = c.loop-first.left in
     let ts = ahead c.loop-first.reader in
     let starts : start_next n ts ≡ Ok (S.Clause c.in-Clause.first, ahead c.next_start.new.reader) = search rules in
     record {
       read = c.loop-first.invariant.2
-          ∙ clause_step (books c.loop-first.clauses c.loop-first.groups) n ts _ _ starts (Err c.in-err-read-clause.field-0.0) (C.filling c.read_clause.new.book) (ahead c.read_clause.new.reader) c.in-err-read-clause.ensures.read
+          ∙ clause_step (books c.loop-first.clauses c.loop-first.groups) n ts _ _ starts (Err c.in_err-read_clause-in-Clause.field-0.0) (C.filling c.read_clause.new.book) (ahead c.read_clause.new.reader) c.in_err-read_clause-in-Clause.ensures.read
           ∙ (rw (p.1, p.2) refl);
-      sized = record { clauses = c.in-err-read-clause.ensures.sized ∙ c.loop-first.invariant.3.clauses; groups = c.loop-first.invariant.3.groups };
+      sized = record { clauses = c.in_err-read_clause-in-Clause.ensures.sized ∙ c.loop-first.invariant.3.clauses; groups = c.loop-first.invariant.3.groups };
     }
 
 -- a group
@@ -78,7 +78,7 @@ loop-first-smaller c =
     let n = c.loop-first.left in
     let ts = ahead c.loop-first.reader in
     let starts : start_next n ts ≡ Ok (S.Group c.in-Group.at, ahead c.next_start.new.reader) = search rules in
-    (group_on (books c.loop-first.clauses c.loop-first.groups) n ts _ _ starts _ _ c.in-ok-read-group.ensures.read).0
+    (group_on (books c.loop-first.clauses c.loop-first.groups) n ts _ _ starts _ _ c.in_ok-read_group-in-Group.ensures.read).0
 
 pub loop-first-preserved : goal.loop-first-preserved
 loop-first-preserved c =
@@ -86,7 +86,7 @@ loop-first-preserved c =
     let n = c.loop-first.left in
     let ts = ahead c.loop-first.reader in
     let starts : start_next n ts ≡ Ok (S.Group c.in-Group.at, ahead c.next_start.new.reader) = search rules in
-    let e = c.in-ok-read-group.ensures in
+    let e = c.in_ok-read_group-in-Group.ensures in
     let g = G.filling c.read_group.new.book in (
       c.loop-first.invariant.0,
       (group_on b n ts _ _ starts g _ e.read).1,
@@ -94,15 +94,15 @@ loop-first-preserved c =
       record { clauses = c.loop-first.invariant.3.clauses; groups = e.sized ∙ c.loop-first.invariant.3.groups },
     )
 
-pub returns-in-err-read-group : goal.returns-in-err-read-group
-returns-in-err-read-group c =
-    let p = err_from_is_err_and c.from-residual-in-err-read-group.result c.from-residual-in-err-read-group.ensures.1 in
+pub returns-in_err-read_group-in-Group : goal.returns-in_err-read_group-in-Group
+returns-in_err-read_group-in-Group c =
+    let p = err_from_is_err_and c.from_residual-in_err-read_group-in-Group.result c.from_residual-in_err-read_group-in-Group.ensures.1 in
     let n = c.loop-first.left in
     let ts = ahead c.loop-first.reader in
     let starts : start_next n ts ≡ Ok (S.Group c.in-Group.at, ahead c.next_start.new.reader) = search rules in
     record {
       read = c.loop-first.invariant.2
-          ∙ group_step (books c.loop-first.clauses c.loop-first.groups) n ts _ _ starts (Err c.in-err-read-group.field-0.0) (G.filling c.read_group.new.book) (ahead c.read_group.new.reader) c.in-err-read-group.ensures.read
+          ∙ group_step (books c.loop-first.clauses c.loop-first.groups) n ts _ _ starts (Err c.in_err-read_group-in-Group.field-0.0) (G.filling c.read_group.new.book) (ahead c.read_group.new.reader) c.in_err-read_group-in-Group.ensures.read
           ∙ (rw (p.1, p.2) refl);
-      sized = record { clauses = c.loop-first.invariant.3.clauses; groups = c.in-err-read-group.ensures.sized ∙ c.loop-first.invariant.3.groups };
+      sized = record { clauses = c.loop-first.invariant.3.clauses; groups = c.in_err-read_group-in-Group.ensures.sized ∙ c.loop-first.invariant.3.groups };
     }
