@@ -1,5 +1,5 @@
 -- Laws of the rules of a file: one rule more, and then the rest.
-use Rattle.std.proofs.Common.{◌≡◌, ℕ, ◌+◌, ◌-◌, ◌<◌, ◌≤◌, Bool, true, false, cond, eqb, List, [], ◌∷◌, ◌++◌, length, ℤ, nat_abs, Ok, Err, codes, fold, Result, sym, refl, ap, ◌∙◌, subst, append_assoc, append-nil, arith}
+use Rattle.std.proofs.Common.{◌≡◌, ℕ, ◌-◌, ◌<◌, ◌≤◌, Bool, true, false, cond, eqb, List, [], ◌∷◌, ◌++◌, length, ℤ, nat_abs, Ok, Err, codes, fold, Result, sym, refl, ap, ◌∙◌, subst, append_assoc, append-nil, arith}
 use Rattle.std.specs.Str.{bytes_eq}
 use Rattle.std.proofs.lemmas.Bool.{eqb-false}
 use Rattle.rules.specs.Rows.{is_zero}
@@ -17,7 +17,7 @@ use Rattle.rulefile.specs.declared.form.Start.{Start}
 use Rattle.rulefile.specs.declared.form.Start.TheVariants as S
 use Rattle.rulefile.specs.Words.{Seen, number, other, bad, end}
 use Rattle.rulefile.specs.Form.{Taken, negative, misfit, natural_next, start_next, with_literal, literals_next, literals_from}
-use Rattle.rulefile.specs.Outcomes.{Rule, clause, group, extended, Rules, all, broken, rule, between, limit, within, rules_in, Books, both, answer, filled, told, placed, rule_read, clause_read, group_rule, group_read}
+use Rattle.rulefile.specs.Outcomes.{Rule, clause, group, extended, Rules, all, broken, rule, between, limit, within, rules_in, Books, both, filled, told, placed, rule_read, clause_read, group_rule, group_read}
 use Rattle.rulefile.proofs.FormLaws.{err_ok}
 use Rattle.rulefile.proofs.RuleLaws.{ok_first, ok_second}
 

@@ -87,7 +87,7 @@ module _ (text : List ℕ) where
         ih (within (w ++ (b ∷ [])) a) l (p + 1) (behind_word_byte front b l p (passed_stop Inside b q) h) (before, ap (λ k. k ++ (b ∷ [])) is ∙ append_assoc before w (b ∷ []), at)
     within_byte w a (before, is, at) (Some n) q =
         All-cons (Shows text) (word_seen w a) (shown (between n) (p + 1) (line_after l b) bs) (word_stands before w (b ∷ bs) a (e ∙ ap (λ k. k ++ (b ∷ bs)) is ∙ append_assoc before w (b ∷ bs)) at)
-            (ih (between n) (line_after l b) (p + 1) (behind_byte front b l p h) tt)
+        (ih (between n) (line_after l b) (p + 1) (behind_byte front b l p h) tt)
 
   end_shows : (front : List ℕ) (l p : ℕ) → text ≡ front ++ [] → Behind front l p → All (Shows text) (end (position l p) ∷ [])
   end_shows front l p e h = All-cons (Shows text) (end (position l p)) [] (end_stands front l p e h) (All-nil (Shows text))

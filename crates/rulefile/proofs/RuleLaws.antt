@@ -1,5 +1,5 @@
 -- Laws of one rule: a rule that is read literal by literal is answered as a whole.
-use Rattle.std.proofs.Common.{◌≡◌, ℕ, ◌-◌, List, ℤ, Ok, Err, fold, Result, sym, refl, ap, ◌∙◌}
+use Rattle.std.proofs.Common.{◌≡◌, ℕ, List, ℤ, Ok, Err, fold, Result, sym, refl, ap, ◌∙◌}
 use Rattle.rules.specs.Drafts.{Reply}
 use Rattle.rules.specs.ClauseFilling as C
 use Rattle.rules.specs.GroupFilling as G

@@ -1,5 +1,5 @@
 -- The form of a rule file, word by word.
-use Rattle.std.specs.Prelude.{ℕ, ◌-◌, Bool, true, false, cond, List, [], ◌∷◌, ℤ, pos, negsuc, Ok, Err, codes, Result, ◌==◌, nat_lt, unsigned_abs}
+use Rattle.std.specs.Prelude.{ℕ, Bool, true, false, cond, List, [], ◌∷◌, ℤ, pos, negsuc, Ok, Err, codes, Result, ◌==◌, nat_lt, unsigned_abs}
 use Rattle.std.specs.Str.{bytes_eq}
 use Rattle.rules.specs.Rows.{is_zero}
 use Rattle.rulefile.specs.declared.words.Position.{Position}

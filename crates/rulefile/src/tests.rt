@@ -57,7 +57,7 @@ fn a_file_that_is_read(rt: HostRuntime) -> Result<(), Fail> {
     let mut groups = GroupBook::open(&mut group_words, 0);
     let text = b"c a comment\np cnf 3 2\n1 -2 1 1\nc within a clause\n1 0 a 1 -1\n3 0 0\n";
     read(text, &mut clauses, &mut groups)?;
-    assert_eq!(rt; clauses.words(), &[1, -2, 0, 0, 0, 0]);
-    assert_eq!(rt; groups.words(), &[-1, 3, 2, 0, 0, 0]);
+    assert_eq!(rt; clauses.words(), [1, -2, 0, 0, 0, 0].as_slice());
+    assert_eq!(rt; groups.words(), [-1, 3, 2, 0, 0, 0].as_slice());
     Ok(())
 }
