@@ -17,6 +17,8 @@ WORD = re.compile(r"(?<!" + CHAR + r")(c\.|l\.|goal\.)?(" + CHAR + "+)")
 DEFINED = re.compile(r"^\s*(?:(?:unfoldable|abbrev|pub) )*(?:(?:record|data) ([^\s(){}.,;:|]+)|([^\s(){}.,;:|]+) :(?= ))", re.M)
 GHOST = re.compile(r"^\s*ghost (\w+)\s*:", re.M)
 LIBRARY = re.compile(r"use (?:Rattle\.(?:std|core)|Prim|mathlib|native|lib|borrow|mir)[.\w]*\.\{([^}]*)\}")
+# Fields of a record that share the names of two lemmas of the library: only where they stand tells them apart.
+FIELD = re.compile(r"(?<=\.)not-(?:true|false)\b(?![-'])|^ +(?:pub )?not-(?:true|false)(?= [:=] )", re.M)
 DESCRIBED = {
     "at_most", "reason_count", "slot_count", "is_gap", "book_count", "answers_determined", "calls_answered", "chunk_decided",
     "long_runs_end", "promise_kept", "promise_kept_before", "runs_join", "verdicts_agree",
@@ -71,6 +73,7 @@ def respelled(path, old, names):
         for n, s in names.items()
         if n in words and s not in DESCRIBED and (s in words or any(o != n and o in words and t == s for o, t in names.items()))
     ]
+    old = FIELD.sub(lambda m: snake(m.group(0)), old)
     generated = not is_own(path)
 
     def turn(m):

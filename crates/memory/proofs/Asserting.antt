@@ -29,7 +29,7 @@ pub unit_placeable : (n : ℕ) (t : Trail) (C : List ℤ) → All (λ l. in_rang
 unit_placeable n t C r l e =
     let u = unit_at (on t) C l e in
     record {
-      unassigned = parts_free n t l (all_has (λ x. in_range n x ≡ true) C r l u.inside) u.not-true u.not-false;
+      unassigned = parts_free n t l (all_has (λ x. in_range n x ≡ true) C r l u.inside) u.not_true u.not_false;
       grounded = has_all (λ x. on t (neg_ℤ x) ≡ true) (others_of l C)
           (λ x h. let c = kept_in (λ y. not (same y l)) C x h in u.others x c.0 (not-true (same x l) c.1));
     }
@@ -46,7 +46,7 @@ module _ (n L len k at : ℕ) (ws : List ℤ) (st : Coherent n L len ws) (ra : A
   pub unit_there : at < k
   unit_there =
       let u = unit_at (on (trail_of n len ws)) (clause_of n k ws) l un in
-      let o = value_of l u.inside ∙ off_open (trail_of n len ws) l (index_range n l (reach l u.inside)).0 u.not-true u.not-false in
+      let o = value_of l u.inside ∙ off_open (trail_of n len ws) l (index_range n l (reach l u.inside)).0 u.not_true u.not_false in
       ltb-true at k (any_first (unvalued n ws) ws (clause_at n 0) k at most before found ∙ has_any (unvalued n ws) (clause_of n k ws) l u.inside o)
 
   pub unit_literal : word_at ws (clause_at n at) ≡ l

@@ -6,6 +6,7 @@ use mathlib.Core.Bool.{false≢true}
 use lib.IntN.{neg_ℤ-neg_ℤ}
 use Rattle.std.proofs.lemmas.List.FromFn.{map-range_with_len_more}
 use Rattle.std.proofs.lemmas.Bool.{eq-eqb, ne_eqb, or_cases, both_ways, cases_Bool}
+use Rattle.std.proofs.Math.Bool.{or-false}
 use Rattle.rules.specs.Literals.{same, has, any_pass}
 use Rattle.rules.proofs.Literals.{same_true, eq_same, all_has}
 use Rattle.theory.specs.Trail.{Entry, Trail, literal, on, WellFormed}
@@ -16,10 +17,6 @@ use Rattle.memory.specs.Words.{word_at, words_from, index_of}
 use Rattle.memory.specs.Analysis.{set_of, names_index, one, both_count}
 use Rattle.memory.proofs.Words.{index_range, index_neg}
 use Rattle.memory.proofs.Decode.{index_same, index_apart}
-
-pub or-false : (a : Bool) → (a || false) ≡ a
-or-false true = refl
-or-false false = refl
 
 or_assoc : (a b c : Bool) → ((a || b) || c) ≡ (a || (b || c))
 or_assoc true b c = refl

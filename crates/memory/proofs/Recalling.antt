@@ -107,7 +107,7 @@ module _ (f : ℤ → Bool) (ws : List ℤ) (base k : ℕ) (h : asserts f (words
         | inr e ↦
             let u = unit_at f C e.0 e.1 in
             let w = word_has ws base k e.0 u.inside in
-            absurd (none w.0 w.1 (ap (value_in f) w.2 ∙ open_value f e.0 u.not-true u.not-false))
+            absurd (none w.0 w.1 (ap (value_in f) w.2 ∙ open_value f e.0 u.not_true u.not_false))
       ]
 
 module _ (n L len : ℕ) (ws : List ℤ) (st : Coherent n L len ws) (k : ℕ) (few : k ≤ n) (r : InRange n ws k) (h : asserts (on (trail_of n len ws)) (clause_of n k ws) ≡ true)

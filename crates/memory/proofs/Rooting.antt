@@ -4,6 +4,7 @@ use mathlib.Core.Path.{fun_ext}
 use mathlib.Core.Bool.{false≢true}
 use Rattle.std.proofs.lemmas.Bool.{cond-true, cond_both, cases_Bool, cases_eq, eqb-true, eq-eqb, ne_eqb, and_parts, and_from, and_cases, and_right, or_cases, or_left, or_right, both_ways}
 use Rattle.std.proofs.lemmas.Bool.Decides.{same_from_decides}
+use Rattle.std.proofs.Math.Bool.{or-false}
 use Rattle.rules.specs.Literals.{same, has}
 use Rattle.rules.specs.Values.{value_in}
 use Rattle.rules.specs.declared.literal.Value.{Value}
@@ -21,7 +22,7 @@ use Rattle.memory.specs.Naming.{with_reason, marks_member}
 use Rattle.memory.proofs.Words.{index_range, index_neg}
 use Rattle.memory.proofs.Decode.{literal_of}
 use Rattle.memory.proofs.Marking.{joins_cong}
-use Rattle.memory.proofs.Counting.{or-false, index_one}
+use Rattle.memory.proofs.Counting.{index_one}
 use Rattle.memory.proofs.Resolving.{false_up}
 use Rattle.memory.proofs.Analysing.{same_clause}
 use Rattle.memory.proofs.Choosing.{trail_kept, entry_kept}

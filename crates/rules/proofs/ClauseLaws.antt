@@ -23,7 +23,7 @@ opposite_false f C a x z i j = elim (asserting (status f C) a) [
       elim (cases_Bool (same x l)) [
         | inl d ↦
             let other : same (neg_ℤ x) l ≡ false = elim (cases_Bool (same (neg_ℤ x) l)) [ inl w ↦ absurd (neg_apart x z (same_true x l d ∙ sym (same_true (neg_ℤ x) l w))) | inr w ↦ w ] in
-            absurd (both_ways (f l) u.not-true (subst (λ y. f y ≡ true) (neg_ℤ-neg_ℤ x ∙ same_true x l d) (u.others (neg_ℤ x) j other)))
+            absurd (both_ways (f l) u.not_true (subst (λ y. f y ≡ true) (neg_ℤ-neg_ℤ x ∙ same_true x l d) (u.others (neg_ℤ x) j other)))
         | inr d ↦ u.others x i d
       ]
 ]
@@ -90,7 +90,7 @@ module _ (n : ℕ) (C : List ℤ) (ranged : (x : ℤ) → has C x ≡ true → i
               both_ways (f (neg_ℤ r.0)) (one_true row r.0 (sym (full_makes n row full r.0 (ranged r.0 r.1)) ∙ r.2)) (falsified_all f C e r.0 r.1)
           | inr e ↦
               let u = unit_at f C e.0 e.1 in
-              both_ways (f (neg_ℤ e.0)) u.not-false (full_neg n row full e.0 (ranged e.0 u.inside) ∙ ap not u.not-true)
+              both_ways (f (neg_ℤ e.0)) u.not_false (full_neg n row full e.0 (ranged e.0 u.inside) ∙ ap not u.not_true)
         ])
         | inr p ↦ p
       ]

@@ -61,8 +61,8 @@ falsified_all f C e x h = elim (cases_Bool (f (neg_ℤ x))) [
 -- the literal of a unit clause, and its others
 pub record UnitAt (f : ℤ → Bool) (C : List ℤ) (l : ℤ) : Type 0 where
   pub inside : has C l ≡ true
-  pub not-false : f (neg_ℤ l) ≡ false
-  pub not-true : f l ≡ false
+  pub not_false : f (neg_ℤ l) ≡ false
+  pub not_true : f l ≡ false
   pub others : (x : ℤ) → has C x ≡ true → same x l ≡ false → f (neg_ℤ x) ≡ true
 
 pub unit_at : (f : ℤ → Bool) (C : List ℤ) (l : ℤ) → status f C ≡ unit l → UnitAt f C l
@@ -72,8 +72,8 @@ unit_at f C l e =
     let r = kept_in (λ x. not (f (neg_ℤ x))) C l i in
     record {
       inside = r.0;
-      not-false = not-true (f (neg_ℤ l)) r.1;
-      not-true = s.1;
+      not_false = not-true (f (neg_ℤ l)) r.1;
+      not_true = s.1;
       others = λ x h d. elim (cases_Bool (f (neg_ℤ x))) [
         | inl p ↦ p
         | inr p ↦

@@ -70,7 +70,7 @@ module _ (n L : ℕ) (p : Position) (o : Orderly n L p) where
       let u = unit_at (on p.trail) C l st in
       let r = all_has (λ x. in_range n x ≡ true) C (look_ranged n m p law o.slots_ranged lk) l u.inside in
       record {
-        unassigned = parts_free n p.trail l r u.not-true u.not-false;
+        unassigned = parts_free n p.trail l r u.not_true u.not_false;
         grounded = has_all (λ x. on p.trail (neg_ℤ x) ≡ true) (others_of l C)
             (λ x h. let k = kept_in (λ y. not (same y l)) C x h in u.others x k.0 (not-true (same x l) k.1));
       }

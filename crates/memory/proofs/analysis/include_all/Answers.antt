@@ -1,11 +1,12 @@
 use Rattle.std.proofs.Common.{◌≡◌, ◌+◌, true, neg_ℤ, sym, arith}
+use Rattle.std.proofs.Math.Bool.{or-false}
 use Rattle.theory.specs.Trail.{on}
 use Rattle.memory.specs.Words.{word_at}
 use Rattle.memory.specs.Decode.{trail_of, marked_index}
 use Rattle.memory.specs.Analysis.{held}
 use Rattle.memory.proofs.Words.{all_words}
 use Rattle.memory.proofs.Decode.{false_ranged}
-use Rattle.memory.proofs.Counting.{names_more, both_more, or-false}
+use Rattle.memory.proofs.Counting.{names_more, both_more}
 use Rattle.memory.proofs.analysis.include_all.Goals as goal
 
 pub loop-i-init : goal.loop-i-init

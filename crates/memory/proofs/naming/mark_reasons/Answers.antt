@@ -1,10 +1,10 @@
 use Rattle.std.proofs.Common.{◌≡◌, ◌-◌, ◌*◌, ◌<◌, ◌||◌, sym, ap, ◌∙◌, arith, rules}
+use Rattle.std.proofs.Math.Bool.{or-false}
 use Rattle.theory.specs.Chunks.{in_chunk}
 use Rattle.memory.specs.Decode.{trail_of, marked_index, marked}
 use Rattle.memory.specs.Naming.{marks_member}
 use Rattle.memory.proofs.Words.{outside_none, outside_both}
 use Rattle.memory.proofs.Decode.{outside_coherent}
-use Rattle.memory.proofs.Counting.{or-false}
 use Rattle.memory.proofs.Rooting.{walk_none, walk_back}
 use Rattle.memory.proofs.naming.mark_reasons.Goals as goal
 

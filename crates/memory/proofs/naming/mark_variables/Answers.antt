@@ -1,9 +1,10 @@
 use Rattle.std.proofs.Common.{◌≡◌, true, sym, ap, ◌∙◌, subst, arith, rules}
+use Rattle.std.proofs.Math.Bool.{or-false}
 use Rattle.rules.specs.Literals.{in_range}
 use Rattle.memory.specs.Words.{index_of}
 use Rattle.memory.specs.Decode.{marked_index}
 use Rattle.memory.proofs.Words.{outside_none, outside_more}
-use Rattle.memory.proofs.Counting.{or-false, names_more}
+use Rattle.memory.proofs.Counting.{names_more}
 use Rattle.memory.proofs.Rooting.{apart_word, mark_more}
 use Rattle.memory.proofs.naming.mark_variables.Goals as goal
 
