@@ -40,7 +40,7 @@ pub(crate) fn drive<S: Source, W: Weigher>(
     requires room { layout.variables ≤ length scratch.old }
     requires clear { scratch.old ≡ replicate (length scratch.old) 0 }
     ensures goes { Goes layout.variables layout.slots (record {
-      source = S.meaning source.entry.now;
+      source = S.meaning source.now;
       preferences = preferences.now;
       weighing = by_total W.Weight.at_most W.Weight.zero W.Weight.plus (W.weight weigher.now);
     }) limit

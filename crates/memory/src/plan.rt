@@ -116,7 +116,7 @@ pub(crate) fn next_plan<S: Source, W: Weigher>(
     requires lawful { Lawful (S.meaning source.now) }
     requires sound { Standing layout extent words.old }
     ensures planned { Planned layout extent (record {
-      source = S.meaning source.entry.now;
+      source = S.meaning source.now;
       preferences = preferences.now;
       weighing = by_total W.Weight.at_most W.Weight.zero W.Weight.plus (W.weight weigher.now);
     }) words.new result }

@@ -28,7 +28,7 @@ impl<'a> Search<'a> {
         ensures promised { (given : Given Reported Refused) × (result.answer ≡ Some given)
             × Promised self.entry.layout.variables self.entry.layout.slots (search_state self.entry)
             (running limit (record {
-              source = S.meaning source.entry.now;
+              source = S.meaning source.now;
               preferences = preferences.now;
               weighing = by_total W.Weight.at_most W.Weight.zero W.Weight.plus (W.weight weigher.now);
             }) (length scratch.old))

@@ -1,5 +1,5 @@
 -- A group as a row of words: its literals, and then its limit plus 1, so that no word of the row is 0.
-use Rattle.std.specs.Prelude.{ℕ, ◌+◌, ◌-◌, Bool, false, ◌&&◌, leb, List, [], ◌∷◌, ◌++◌, length, take, ℤ, pos, negsuc, nat_le, slice_index_or, unsigned_abs}
+use Rattle.std.specs.Prelude.{ℕ, ◌+◌, ◌-◌, Bool, false, ◌&&◌, List, [], ◌∷◌, ◌++◌, length, take, ℤ, pos, negsuc, nat_le, slice_index_or, unsigned_abs}
 use Rattle.std.specs.List.{list_all}
 use Rattle.rules.specs.Literals.{var, in_range}
 use Rattle.rules.specs.Books.{Group, rising, group_fits}
@@ -26,4 +26,4 @@ group_row_fits n row = is_limit (last_word row) && group_fits n (as_group row)
 
 -- whether literals may be the front of a group, the variable of the last being `last` at most
 abbrev pub draft_fits : ℕ → ℕ → List ℤ → Bool
-draft_fits n last ls = list_all (in_range n) ls && (rising 0 ls && list_all (λ l. leb (var l) last) ls)
+draft_fits n last ls = list_all (in_range n) ls && (rising 0 ls && list_all (λ l. nat_le (var l) last) ls)
