@@ -5,8 +5,9 @@ usage: python3 tools/respell.py [FOLDER]     the top of the repository; this one
 
 It ran once, after the toolchain's own script had turned the files to the newer Rattle, and is kept so that the two spellings can be
 laid side by side. A name is the repository's own where a file of specs/, a lemma file right in proofs/ or a ghost member of a trait
-gives its type. Names of goals, which the check makes, and names that some file takes from the library keep their dashes. Nothing is written where two names
-would fall together in one file, but for a definition that then has the name of the function which it describes, as in the library.
+gives its type. Names of goals, which the check makes, and names that some file takes from the library keep their dashes. Nothing is
+written where two names would fall together in one file, but for a definition that then has the name of the function which it
+describes, as in the library.
 """
 import os
 import re
@@ -19,6 +20,7 @@ GHOST = re.compile(r"^\s*ghost (\w+)\s*:", re.M)
 LIBRARY = re.compile(r"use (?:Rattle\.(?:std|core)|Prim|mathlib|native|lib|borrow|mir)[.\w]*\.\{([^}]*)\}")
 # Fields of a record that share the names of two lemmas of the library: only where they stand tells them apart.
 FIELD = re.compile(r"(?<=\.)not-(?:true|false)\b(?![-'])|^ +(?:pub )?not-(?:true|false)(?= [:=] )", re.M)
+# Definitions and lemmas that have the name of a function which they describe, or whose contract they are.
 DESCRIBED = {
     "at_most", "reason_count", "slot_count", "is_gap", "book_count", "answers_determined", "calls_answered", "chunk_decided",
     "long_runs_end", "promise_kept", "promise_kept_before", "runs_join", "verdicts_agree",
