@@ -30,12 +30,12 @@ impl<W: Order> Chooser<W> {
         ensures step { self.new.kept ≡ offered (by_weight W.at_most) self.old.kept candidate }
         ensures choice { (row : List (Candidate W)) → Choice (by_weight W.at_most) row self.old.kept → Choice (by_weight W.at_most) (row ++ (candidate ∷ [])) self.new.kept }
     {
-        let least = &mut self.kept;
-        let earlier = *least;
-        *least = match earlier {
+        let earlier = self.kept;
+        let kept = match earlier {
             Some(kept) if kept.weight.at_most(&candidate.weight) => Some(kept),
             _ => Some(candidate),
         };
+        *self = Chooser { kept };
     }
 
     /// The first least of the candidates offered so far, or nothing where none was.

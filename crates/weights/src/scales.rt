@@ -49,11 +49,7 @@ impl Order for Ranked {
     ghost chain = { Prim.search rules };
 
     fn at_most(&self, other: &Ranked) -> bool {
-        if self.first == other.first {
-            self.second.at_most(&other.second)
-        } else {
-            self.first.at_most(&other.first)
-        }
+        (self.first.0, self.second.0) <= (other.first.0, other.second.0)
     }
 }
 

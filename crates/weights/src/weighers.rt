@@ -27,10 +27,9 @@ impl<W: Scale> Table<'_, W> {
     fn weight_at(&self, entry: usize) -> W
         ensures { result ≡ slice_index_or self.now.weights.now entry W.Scale.zero }
     {
-        if entry < self.weights.len() {
-            self.weights[entry]
-        } else {
-            W::zero()
+        match self.weights.get(entry) {
+            Some(weight) => *weight,
+            None => W::zero(),
         }
     }
 }
@@ -52,14 +51,8 @@ impl<W: Scale> Weigher for Table<'_, W> {
 fn entry_of(literal: i32) -> Option<usize>
     ensures { result ≡ table_entry literal }
 {
-    let variable = literal.unsigned_abs() as usize;
-    if variable == 0 {
-        None
-    } else if literal < 0 {
-        Some(2 * (variable - 1) + 1)
-    } else {
-        Some(2 * (variable - 1))
-    }
+    let first = 2 * (literal.unsigned_abs().checked_sub(1)? as usize);
+    Some(first + usize::from(literal < 0))
 }
 
 /// Weighs an implied member 8 and any other 1.

@@ -8,7 +8,7 @@ returns g c =
     let at_most = by_weight g.W.Order.at_most in
     let laws = g.met.W.Order in
     let x = c.args.candidate in
-    let step : c.match-earlier.least ≡ offered at_most c.args.self.now.kept x = search rules in
+    let step : c.match-earlier.kept ≡ offered at_most c.args.self.now.kept x = search rules in
     record {
       step = step;
       choice = λ row h. subst (Choice at_most (row ++ (x ∷ []))) (sym step) (choice_offered at_most (λ x y. laws.total x.weight y.weight) (λ x y z. laws.chain x.weight y.weight z.weight) row _ x h);
