@@ -14,7 +14,7 @@ import sys
 def sources(top):
     """The sources below the crates of a folder, without tests: pairs of a path and its lines."""
     for folder, _, names in sorted(os.walk(os.path.join(top, "crates"))):
-        if "/src" not in folder:
+        if "/src" not in folder or "/out/" in folder:
             continue
         for name in sorted(names):
             if name.endswith(".rt") and name != "tests.rt":

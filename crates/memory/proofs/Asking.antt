@@ -1,5 +1,5 @@
 -- What the words are after the source was questioned on a part of them.
-use Rattle.std.proofs.Common.{◌≡◌, ℕ, zero, suc, ◌+◌, ◌-◌, ◌*◌, ◌<◌, ◌≤◌, true, false, eqb, List, [], ◌∷◌, ◌++◌, map, length, get_or, take, drop, ℤ, pos, neg_ℤ, All, sym, refl, ap, ◌∙◌, subst, inl, inr, arith, length-append, length-drop, length-take-le, get_or-drop, get_or-take, take-take, get_or-append-add}
+use Rattle.std.proofs.Common.{◌≡◌, ℕ, zero, suc, ◌+◌, ◌-◌, ◌*◌, ◌<◌, ◌≤◌, true, false, eqb, List, [], ◌∷◌, ◌++◌, map, length, get_or, take, drop, ℤ, pos, neg_ℤ, All, Option, sym, refl, ap, ◌∙◌, subst, inl, inr, arith, length-append, length-drop, length-take-le, get_or-drop, get_or-take, take-take, get_or-append-add}
 use Rattle.std.proofs.lemmas.List.Elements.{All-head, All-tail}
 use borrow.Rule.Slice.PartMut.{put_mid, mid_of, post_of, put_same}
 use lib.ListN.{get_or-append}
@@ -8,7 +8,6 @@ use Rattle.std.proofs.lemmas.Bool.{cases_Bool, cases_lt, both_ways, or_parts, or
 use Rattle.rules.specs.Literals.{var, same, in_range, names, Once}
 use Rattle.rules.specs.Sources.{Answer, Answer.silent, Answer.tells, Meaning, LawfulAt, laid, page_after}
 use Rattle.rules.specs.Telling.{told_of}
-use Rattle.rules.specs.declared.source.Told.{Told}
 use Rattle.rules.proofs.Pages.{laid_length}
 use Rattle.rules.proofs.Literals.{same_true, var_neg}
 use Rattle.theory.specs.Trail.{Entry.decided, on, WellFormed, valuation}
@@ -18,7 +17,8 @@ use Rattle.theory.proofs.Valuations.{valuation_valid}
 use Rattle.memory.specs.Words.{word_at, clause_at, Outside}
 use Rattle.memory.specs.Decode.{trail_of, Coherent, clause_of}
 use Rattle.memory.proofs.Words.{all_words, outside_none}
-use Rattle.memory.specs.InHand.{InRange, answer_in_hand, told_count}
+use Rattle.memory.specs.InHand.{answer_in_hand}
+use Rattle.memory.specs.Finding.{TakenWhole}
 use Rattle.memory.proofs.Reading.{part_long, part_word, words_are, values_are}
 
 -- A CLAUSE OF DIFFERENT VARIABLES IS SHORT: it could stand on a trail
@@ -71,10 +71,9 @@ module _ (a k : ℕ) (ws part : List ℤ) (within : a + k ≤ length ws) (long :
       ∙ get_or-drop j ws 0 (pos 0) ∙ ap (word_at ws) (sym e)
 
 -- what is known once the source was questioned
-pub record Asked (n : ℕ) (answer : Answer) (was now : List ℤ) (r : Told) : Type 0 where
+pub record Asked (n : ℕ) (answer : Answer) (was now : List ℤ) (r : Option ℕ) : Type 0 where
   pub told : answer_in_hand n now r ≡ answer
-  pub few : told_count r ≤ n
-  pub ranged : InRange n now (told_count r)
+  pub whole : TakenWhole n now r
   pub outside : Outside (4 * n) n was now
 
 module _ (n L len : ℕ) (ws : List ℤ) (st : Coherent n L len ws) (m : Meaning) (law : LawfulAt n m) (k : ℕ) (twice : k ≡ 2 * n) where
@@ -90,8 +89,7 @@ module _ (n L len : ℕ) (ws : List ℤ) (st : Coherent n L len ws) (m : Meaning
   after_silence : m.answer row ≡ silent → Asked n (m.answer row) ws (put_mid (3 * n) k ws page) (told_of silent)
   after_silence e = record {
     told = sym e;
-    few = omega arith;
-    ranged = λ i h. absurd (omega arith);
+    whole = tt;
     outside = subst (Outside (4 * n) n ws) (sym (put_same (3 * n) k ws)) (outside_none (4 * n) n ws);
   }
 
@@ -117,8 +115,7 @@ module _ (n L len : ℕ) (ws : List ℤ) (st : Coherent n L len ws) (m : Meaning
       let clause : clause_of n (length C) now ≡ C = words_are now (clause_at n 0) (length C) C refl literal in
       record {
         told = ap tells clause ∙ sym e;
-        few = short;
-        ranged = λ i h. all_words (λ l. in_range n l ≡ true) now (clause_at n 0) (length C) (subst (All (λ l. in_range n l ≡ true)) (sym clause) known.ranged) i h;
+        whole = (short, all_words (λ l. in_range n l ≡ true) now (clause_at n 0) (length C) (subst (All (λ l. in_range n l ≡ true)) (sym clause) known.ranged));
         outside = record {
           below = λ j h. elim (cases_lt j (3 * n)) [
             | inl b ↦ put_before (3 * n) k ws written room long j b
@@ -132,7 +129,7 @@ module _ (n L len : ℕ) (ws : List ℤ) (st : Coherent n L len ws) (m : Meaning
   after_answer silent e = after_silence e
   after_answer (tells C) e = after_clause C e
 
-  pub asked : m.count ≡ n → (r : Told) (written : List ℤ) → r ≡ told_of (m.answer (take m.count page)) → written ≡ page_after m.count (m.answer (take m.count page)) page
+  pub asked : m.count ≡ n → (r : Option ℕ) (written : List ℤ) → r ≡ told_of (m.answer (take m.count page)) → written ≡ page_after m.count (m.answer (take m.count page)) page
       → Asked n (m.answer row) ws (put_mid (3 * n) k ws written) r
   asked e r written t w =
       let v : take m.count page ≡ row = ap (λ j. take j page) e ∙ take-take n k (drop (3 * n) ws) (omega arith) ∙ values_are n L len ws st n refl in

@@ -90,20 +90,20 @@ not_refuted Model h = (refl, λ e. let z : ◌≡◌ {A = ℕ} 0 1 = cc in omega
 not_refuted Refuted h = absurd (h refl)
 
 module _ (s : Settled) (v : ℕ) where
-  pub no_model_promised : (s.verdict ≡ Model → ⊥) → (Err NoModel ≡ value_answer s v) × Promised s.layout.variables s.layout.slots (settled_state s) (value v) (refused 6) (settled_state s)
-  no_model_promised h = let e = no_model s.verdict h in (rw e.0, promised s.layout.variables s.layout.slots (settled_state s) (value v) (refused 6) (settled_state s) tt (values_without v e.1))
+  pub no_model_promised : (s.verdict ≡ Model → ⊥) → (Err NoModel ≡ value_answer s v) × Promised s.memory.layout.variables s.memory.layout.slots (settled_state s) (value v) (refused 6) (settled_state s)
+  no_model_promised h = let e = no_model s.verdict h in (rw e.0, promised s.memory.layout.variables s.memory.layout.slots (settled_state s) (value v) (refused 6) (settled_state s) tt (values_without v e.1))
 
-  pub no_value_promised : s.verdict ≡ Model → in_range s.layout.variables (pos v) ≡ false
-      → (Err NoVariable ≡ value_answer s v) × Promised s.layout.variables s.layout.slots (settled_state s) (value v) (refused 2) (settled_state s)
-  no_value_promised e r = (rw (e, r), promised s.layout.variables s.layout.slots (settled_state s) (value v) (refused 2) (settled_state s) tt (values_outside v (ap verdict_of e) r))
+  pub no_value_promised : s.verdict ≡ Model → in_range s.memory.layout.variables (pos v) ≡ false
+      → (Err NoVariable ≡ value_answer s v) × Promised s.memory.layout.variables s.memory.layout.slots (settled_state s) (value v) (refused 2) (settled_state s)
+  no_value_promised e r = (rw (e, r), promised s.memory.layout.variables s.memory.layout.slots (settled_state s) (value v) (refused 2) (settled_state s) tt (values_outside v (ap verdict_of e) r))
 
-  pub value_promised : s.verdict ≡ Model → in_range s.layout.variables (pos v) ≡ true → (b : Bool) → b ≡ on (found s).position.trail (pos v)
-      → (Ok b ≡ value_answer s v) × Promised s.layout.variables s.layout.slots (settled_state s) (value v) (said b) (settled_state s)
+  pub value_promised : s.verdict ≡ Model → in_range s.memory.layout.variables (pos v) ≡ true → (b : Bool) → b ≡ on (found s).position.trail (pos v)
+      → (Ok b ≡ value_answer s v) × Promised s.memory.layout.variables s.memory.layout.slots (settled_state s) (value v) (said b) (settled_state s)
   value_promised e r b h =
-      let m = h ∙ sym (value_makes s.layout.variables (found s).position.trail v r) in (
+      let m = h ∙ sym (value_makes s.memory.layout.variables (found s).position.trail v r) in (
         rw (e, r) (ap Ok m),
-        subst (λ x. Promised s.layout.variables s.layout.slots (settled_state s) (value v) (said x) (settled_state s)) (sym m)
-            (promised s.layout.variables s.layout.slots (settled_state s) (value v) (said (makes (assignment s.layout.variables (on (found s).position.trail)) (pos v))) (settled_state s) tt (values v (ap verdict_of e) r)),
+        subst (λ x. Promised s.memory.layout.variables s.memory.layout.slots (settled_state s) (value v) (said x) (settled_state s)) (sym m)
+            (promised s.memory.layout.variables s.memory.layout.slots (settled_state s) (value v) (said (makes (assignment s.memory.layout.variables (on (found s).position.trail)) (pos v))) (settled_state s) tt (values v (ap verdict_of e) r)),
       )
 
 -- NAMES
@@ -114,24 +114,24 @@ has_failed ws (Some i) ls l = refl
 
 -- the marked assumed literals
 abbrev pub marked_roots : Settled → List ℤ
-marked_roots s = filter (marked s.layout.variables s.words.now) (assumed_literals (trail_of s.layout.variables s.extent.trail s.words.now))
+marked_roots s = filter (marked s.memory.layout.variables s.memory.words.now) (assumed_literals (trail_of s.memory.layout.variables s.memory.extent.trail s.memory.words.now))
 
 module _ (s : Settled) (l : ℤ) where
-  pub named_has : s.verdict ≡ Refuted → has (found s).named l ≡ (failed_is s.words.now s.failed l || has (marked_roots s) l)
-  named_has e = ap (λ v. has (names_by v (with_failed s.words.now s.failed (marked_roots s))) l) e ∙ has_failed s.words.now s.failed (marked_roots s) l
+  pub named_has : s.verdict ≡ Refuted → has (found s).named l ≡ (failed_is s.memory.words.now s.failed l || has (marked_roots s) l)
+  named_has e = ap (λ v. has (names_by v (with_failed s.memory.words.now s.failed (marked_roots s))) l) e ∙ has_failed s.memory.words.now s.failed (marked_roots s) l
 
-  pub not_refuted_promised : (s.verdict ≡ Refuted → ⊥) → (Err NotRefuted ≡ named_answer s l) × Promised s.layout.variables s.layout.slots (settled_state s) (named l) (refused 7) (settled_state s)
-  not_refuted_promised h = let e = not_refuted s.verdict h in (rw e.0, promised s.layout.variables s.layout.slots (settled_state s) (named l) (refused 7) (settled_state s) tt (names_without l e.1))
+  pub not_refuted_promised : (s.verdict ≡ Refuted → ⊥) → (Err NotRefuted ≡ named_answer s l) × Promised s.memory.layout.variables s.memory.layout.slots (settled_state s) (named l) (refused 7) (settled_state s)
+  not_refuted_promised h = let e = not_refuted s.verdict h in (rw e.0, promised s.memory.layout.variables s.memory.layout.slots (settled_state s) (named l) (refused 7) (settled_state s) tt (names_without l e.1))
 
-  pub no_name_promised : s.verdict ≡ Refuted → in_range s.layout.variables l ≡ false
-      → (Err NoVariable ≡ named_answer s l) × Promised s.layout.variables s.layout.slots (settled_state s) (named l) (refused 2) (settled_state s)
-  no_name_promised e r = (rw (e, r), promised s.layout.variables s.layout.slots (settled_state s) (named l) (refused 2) (settled_state s) tt (names_outside l (ap verdict_of e) r))
+  pub no_name_promised : s.verdict ≡ Refuted → in_range s.memory.layout.variables l ≡ false
+      → (Err NoVariable ≡ named_answer s l) × Promised s.memory.layout.variables s.memory.layout.slots (settled_state s) (named l) (refused 2) (settled_state s)
+  no_name_promised e r = (rw (e, r), promised s.memory.layout.variables s.memory.layout.slots (settled_state s) (named l) (refused 2) (settled_state s) tt (names_outside l (ap verdict_of e) r))
 
-  pub name_promised : s.verdict ≡ Refuted → in_range s.layout.variables l ≡ true → (b : Bool) → b ≡ has (found s).named l
-      → (Ok b ≡ named_answer s l) × Promised s.layout.variables s.layout.slots (settled_state s) (named l) (said b) (settled_state s)
+  pub name_promised : s.verdict ≡ Refuted → in_range s.memory.layout.variables l ≡ true → (b : Bool) → b ≡ has (found s).named l
+      → (Ok b ≡ named_answer s l) × Promised s.memory.layout.variables s.memory.layout.slots (settled_state s) (named l) (said b) (settled_state s)
   name_promised e r b h = (
-    ap Ok h ∙ sym (cond-true (in_range s.layout.variables l) (Ok (has (found s).named l)) (Err NoVariable) r)
-        ∙ sym (cond-true (is_refuted s.verdict) (cond (in_range s.layout.variables l) (Ok (has (found s).named l)) (Err NoVariable)) (Err NotRefuted) (ap is_refuted e)),
-    subst (λ x. Promised s.layout.variables s.layout.slots (settled_state s) (named l) (said x) (settled_state s)) (sym h)
-        (promised s.layout.variables s.layout.slots (settled_state s) (named l) (said (has (found s).named l)) (settled_state s) tt (names l (ap verdict_of e) r)),
+    ap Ok h ∙ sym (cond-true (in_range s.memory.layout.variables l) (Ok (has (found s).named l)) (Err NoVariable) r)
+        ∙ sym (cond-true (is_refuted s.verdict) (cond (in_range s.memory.layout.variables l) (Ok (has (found s).named l)) (Err NoVariable)) (Err NotRefuted) (ap is_refuted e)),
+    subst (λ x. Promised s.memory.layout.variables s.memory.layout.slots (settled_state s) (named l) (said x) (settled_state s)) (sym h)
+        (promised s.memory.layout.variables s.memory.layout.slots (settled_state s) (named l) (said (has (found s).named l)) (settled_state s) tt (names l (ap verdict_of e) r)),
   )

@@ -102,10 +102,6 @@ module _ {W : Type 0} (at_most : W → W → Bool) (zero : W) (plus : W → W �
   KeptRight None = Unit {0}
   KeptRight (Some c) = Right c
 
-  pub kept_within : (kept : Option (Candidate W)) → KeptRight kept → PlaceWithin len (kept_place kept)
-  kept_within None h = tt
-  kept_within (Some c) h = h.0
-
   pub offered_right : (kept : Option (Candidate W)) (c : Candidate W) → KeptRight kept → Right c → KeptRight (offered (by_weight at_most) kept c)
   offered_right None c h k = k
   offered_right (Some d) c h k = cond_both (by_weight at_most d c) (Some d) (Some c) KeptRight (λ _. h) (λ _. k)

@@ -40,10 +40,6 @@ left_at n T w B x = elim (cases_Bool (on T (pos (suc x)))) [
     by l true = refl
     by l false = refl
 
-pub value_small : (T : Trail) (x : ℕ) → nat_abs (word T (suc x)) ≤ suc x
-value_small T x = cond_both (on T (pos (suc x))) (pos (suc x)) (cond (on T (negsuc x)) (negsuc x) (pos 0)) (λ v. nat_abs v ≤ suc x) (λ _. omega arith)
-    (λ _. cond_both (on T (negsuc x)) (negsuc x) (pos 0) (λ v. nat_abs v ≤ suc x) (λ _. omega arith) (λ _. omega arith))
-
 -- the variables below x are written
 pub record Collected (n x count : ℕ) (S : ℤ → Bool) (was now : List ℤ) : Type 0 where
   pub clause : words_from now (clause_at n 0) count ≡ learned x S

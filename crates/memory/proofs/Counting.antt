@@ -6,9 +6,9 @@ use mathlib.Core.Bool.{false≢true}
 use lib.IntN.{neg_ℤ-neg_ℤ}
 use Rattle.std.proofs.lemmas.List.FromFn.{map-range_with_len_more}
 use Rattle.std.proofs.lemmas.Bool.{eq-eqb, ne_eqb, or_cases, both_ways, cases_Bool}
-use Rattle.std.proofs.Math.Bool.{or-false}
+use Rattle.std.proofs.Math.Bool.{or_assoc, or-false}
 use Rattle.rules.specs.Literals.{same, has, any_pass}
-use Rattle.rules.proofs.Literals.{same_true, eq_same, all_has}
+use Rattle.rules.proofs.Literals.{same_true, eq_same, all_has, any_push}
 use Rattle.theory.specs.Trail.{Entry, Trail, literal, on, WellFormed}
 use Rattle.theory.specs.Conflict.{resolved}
 use Rattle.theory.proofs.Trails.{AllFalse, ranged, fresh, fresh_negation, on_top, on_below, on_range, not_both}
@@ -18,19 +18,11 @@ use Rattle.memory.specs.Analysis.{set_of, names_index, one, both_count}
 use Rattle.memory.proofs.Words.{index_range, index_neg}
 use Rattle.memory.proofs.Decode.{index_same, index_apart}
 
-or_assoc : (a b c : Bool) → ((a || b) || c) ≡ (a || (b || c))
-or_assoc true b c = refl
-or_assoc false b c = refl
-
 split_one : (k b : Bool) → one (k && (b || true)) ≡ one (not b && k) + one (k && b)
 split_one true true = refl
 split_one true false = refl
 split_one false true = refl
 split_one false false = refl
-
-any_push : (p : ℤ → Bool) (xs : List ℤ) (x : ℤ) → any_pass p (xs ++ (x ∷ [])) ≡ (any_pass p xs || p x)
-any_push p [] x = or-false (p x)
-any_push p (y ∷ xs) x = ap (λ b. p y || b) (any_push p xs x) ∙ sym (or_assoc (p y) (any_pass p xs) (p x))
 
 -- the index tells the literals of a well-formed trail apart
 pub index_one : (n : ℕ) (t : Trail) → WellFormed n t → (a b : ℤ) → on t a ≡ true → on t b ≡ true → index_of a ≡ index_of b → a ≡ b

@@ -7,24 +7,21 @@ use Rattle.theory.specs.Conflict.{others_of, repaired}
 use Rattle.theory.specs.Look.{Position}
 use Rattle.theory.specs.Search.{Guide, Verdict, Verdict.paused, Ends, Kind, Kind.assuming, Kind.deciding, Kind.implying, Kind.conflicting, placed, Step}
 use Rattle.theory.specs.Run.{Search, Report, no_steps, one_step, added, Goes, Goes.ends, Goes.pauses, Goes.steps}
-use Rattle.theory.proofs.RunLaws.{none_added, added_assoc}
+use Rattle.theory.proofs.RunLaws.{added_assoc}
 use Rattle.theory.proofs.Analysis.{analyse_analysed, one_touching}
 use Rattle.theory.proofs.Uniqueness.{end_or_step}
 use Rattle.theory.proofs.Compute.{left_over}
 use Rattle.memory.specs.Words.{word_at, clause_at}
-use Rattle.memory.specs.Decode.{literal_at, clause_of}
-use Rattle.memory.specs.Plans.{trail_at, position_at, Standing, Ready, Taken}
-use Rattle.memory.specs.declared.layout.Layout.{Layout}
-use Rattle.memory.specs.declared.layout.Extent.{Extent}
+use Rattle.memory.specs.Decode.{literal_at}
+use Rattle.memory.specs.Memories.{trail_in, position_in, clause_in}
+use Rattle.memory.specs.Plans.{Ready, Taken}
+use Rattle.memory.specs.declared.memory.Memory.{Memory}
 use Rattle.memory.specs.declared.plan.Step.{Step as Due}
 use Rattle.memory.specs.declared.plan.Step.TheVariants.{Assume, Decide, Imply, Repair}
 
 -- What is known after the steps of a report, which led from p₀ to p: any run on from p is one from p₀, with these steps in front.
 abbrev pub Onward : ℕ → ℕ → Guide → ℕ → Position → ℕ → Position → Report → Type 0
 Onward n L g limit p₀ left p a = (r : Report) (q : Search) → Goes n L g left p r q → Goes n L g limit p₀ (added a r) q
-
-pub onward_start : (n L : ℕ) (g : Guide) (limit : ℕ) (p : Position) (left : ℕ) → left ≡ limit → (a : Report) (v : Verdict) → a ≡ no_steps v → Onward n L g limit p left p a
-onward_start n L g limit p left e a v h r q go = subst (λ x. Goes n L g limit p x q) (sym (none_added v r) ∙ ap (λ b. added b r) (sym h)) (subst (λ k. Goes n L g k p r q) e go)
 
 module _ (n L : ℕ) (g : Guide) (limit left : ℕ) (p₀ p : Position) (a : Report) (on : Onward n L g limit p₀ left p a) where
   pub onward_step : (k : Kind) (undone : ℕ) (p' : Position) → Step n L g p k undone p' → 0 < left → (left' : ℕ) → suc left' ≡ left → (b : Report) → b ≡ added a (one_step k undone) → Onward n L g limit p₀ left' p' b
@@ -41,22 +38,23 @@ module _ (n L : ℕ) (g : Guide) (limit left : ℕ) (p₀ p : Position) (a : Rep
       (subst (λ l. Goes n L g l p (no_steps paused) (record { position = p; verdict = paused; named = [] })) (sym z) (pauses (λ v ns e. end_or_step n L g p e st))))
 
 -- where a step is due there is what it comes to: a pause before it is no end
-pub ready_kind : (layout : Layout) (extent : Extent) (ws : List ℤ) (step : Due) → Standing layout extent ws → Ready layout extent ws step → (k : Kind) × (undone : ℕ) × (p' : Position) × Taken layout extent ws step k undone p'
-ready_kind layout extent ws (Assume i) so r = (assuming, 0, placed (position_at layout extent ws) (assumed (word_at ws i)), record { kind = refl; none = refl; leads = refl })
-ready_kind layout extent ws (Decide l) so r = (deciding, 0, placed (position_at layout extent ws) (decided l), record { kind = refl; none = refl; leads = refl })
-ready_kind layout extent ws (Imply count at) so r =
-    let l = word_at ws (clause_at layout.variables at) in
-    (implying, 0, placed (position_at layout extent ws) (implied l (others_of l (clause_of layout.variables count ws))), record { kind = refl; none = refl; leads = refl })
-ready_kind layout extent ws (Repair count root) so r =
-    let n = layout.variables in
-    let p = position_at layout extent ws in
-    let t = trail_at layout extent ws in
-    let C = clause_of n count ws in
-    let d = literal_at n ws root in
-    let an = analyse_analysed n t so.coherent.formed d C (falsified_all (on t) C r.stands) in
-    let u = one_touching n t so.coherent.formed d C r.touched.touching an in (
+pub ready_kind : (m : Memory) (step : Due) → Ready m step → (k : Kind) × (undone : ℕ) × (p' : Position) × Taken m step k undone p'
+ready_kind m (Assume i) r = (assuming, 0, placed (position_in m) (assumed (word_at m.words.now i)), record { kind = refl; none = refl; leads = refl })
+ready_kind m (Decide l) r = (deciding, 0, placed (position_in m) (decided l), record { kind = refl; none = refl; leads = refl })
+ready_kind m (Imply count at) r =
+    let l = word_at m.words.now (clause_at m.layout.variables at) in
+    (implying, 0, placed (position_in m) (implied l (others_of l (clause_in m count))), record { kind = refl; none = refl; leads = refl })
+ready_kind m (Repair count root) r =
+    let n = m.layout.variables in
+    let p = position_in m in
+    let t = trail_in m in
+    let C = clause_in m count in
+    let d = literal_at n m.words.now root in
+    let formed = m.sound.coherent.formed in
+    let an = analyse_analysed n t formed d C (falsified_all (on t) C r.stands) in
+    let u = one_touching n t formed d C r.touched.touching an in (
       conflicting,
       length (chunk t d),
-      repaired n layout.slots p d u.0 (left_over t d C),
+      repaired n m.layout.slots p d u.0 (left_over t d C),
       record { kind = refl; many = refl; leads = record { placed = u.0; left = left_over t d C; analysed = an; is_left = u.1; touched = u.2; leads = refl } },
     )

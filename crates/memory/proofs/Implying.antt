@@ -7,10 +7,9 @@ use Rattle.rules.specs.Literals.{same}
 use Rattle.rules.proofs.Literals.{eq_same}
 use Rattle.theory.specs.Trail.{Entry.implied}
 use Rattle.theory.specs.Conflict.{others_of}
-use Rattle.memory.specs.Words.{word_at, words_from, index_of, row_at, Wrote, Outside, Touched}
+use Rattle.memory.specs.Words.{word_at, words_from, index_of, row_at, Wrote, Outside, Touched, Laid}
 use Rattle.memory.specs.Decode.{reason_count, entry_of}
 use Rattle.memory.proofs.Words.{words_same, outside_none, outside_more}
-use Rattle.memory.proofs.Placing.{Laid}
 
 pub places_apart : (ws : List ℤ) (a b : ℕ) → same (word_at ws a) (word_at ws b) ≡ false → a ≢ b
 places_apart ws a b f e = both_ways (same (word_at ws a) (word_at ws b)) f (eq_same (word_at ws a) (word_at ws b) (ap (word_at ws) e))

@@ -25,6 +25,5 @@ pub mod Stepping
 pub mod Finishing
 pub mod Driving
 pub mod Promising
-pub mod Props
 pub mod Calling
 pub mod Running

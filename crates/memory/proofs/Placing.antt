@@ -1,11 +1,13 @@
 -- One entry more on the trail, however its words were written.
-use Rattle.std.proofs.Common.{◌≡◌, ℕ, zero, suc, ◌+◌, ◌<◌, ◌≤◌, true, false, cond, ◌||◌, eqb, ◌≢◌, ◌⊎◌, List, [], ◌∷◌, length, ℤ, pos, negsuc, neg_ℤ, sym, refl, ap, ◌∙◌, subst, inl, inr, add-one, arith}
+use Rattle.std.proofs.Common.{◌≡◌, ℕ, zero, suc, ◌+◌, ◌<◌, ◌≤◌, true, false, cond, ◌||◌, eqb, ◌≢◌, List, [], ◌∷◌, length, ℤ, pos, negsuc, neg_ℤ, sym, refl, ap, ◌∙◌, subst, inl, inr, add-one, arith}
 use Rattle.std.proofs.lemmas.Bool.{cond_both, eqb-true, eqb-false, eq-eqb, ne_eqb, cases_eq}
 use Rattle.rules.specs.Literals.{var, same}
 use Rattle.theory.specs.Trail.{Entry, Trail, literal, on, free, Placeable, WellFormed, word}
 use Rattle.theory.proofs.Trails.{free_parts}
-use Rattle.memory.specs.Words.{word_at, index_of, trail_at, value_at, row_at, Wrote, Touched}
-use Rattle.memory.specs.Decode.{as_entry, reason_count, entry_of, trail_of, Coherent}
+use Rattle.memory.specs.Words.{word_at, index_of, trail_at, value_at, row_at, Wrote, Touched, Laid}
+use Rattle.weights.specs.declared.weigher.Standing.{Standing}
+use Rattle.weights.specs.declared.weigher.Standing.TheVariants.{Assumed, Decided, Implied}
+use Rattle.memory.specs.Decode.{as_entry, standing_word, reason_count, entry_of, trail_of, Coherent}
 use Rattle.memory.proofs.Words.{rows_apart, index_range}
 use Rattle.memory.proofs.Decode.{literal_of, entry_same, trail_same, place_at, on_at, index_apart}
 
@@ -65,20 +67,17 @@ module _ (n L len : ℕ) (l : ℤ) (e : Entry) (ws now : List ℤ) (st : Coheren
       }
 
 -- the entry of a literal that is assumed or decided
-pub known_entry : (n : ℕ) (ws : List ℤ) (l s : ℤ) → word_at ws (row_at n (index_of l) 0) ≡ s → (s ≡ pos 1) ⊎ (s ≡ pos 2) → entry_of n ws l ≡ as_entry s l []
-known_entry n ws l s e h = rw e (elim h [ inl q ↦ rw q | inr q ↦ rw q ])
+pub known_entry : (n : ℕ) (ws : List ℤ) (l : ℤ) (k : Standing) → word_at ws (row_at n (index_of l) 0) ≡ standing_word k → k ≢ Implied → entry_of n ws l ≡ as_entry (standing_word k) l []
+known_entry n ws l Assumed e h = rw e
+known_entry n ws l Decided e h = rw e
+known_entry n ws l Implied e h = absurd (h refl)
 
-pub known_placeable : (n : ℕ) (t : Trail) (l s : ℤ) → free n t l ≡ true → (s ≡ pos 1) ⊎ (s ≡ pos 2) → Placeable n t (as_entry s l [])
-known_placeable n t l s fr h = elim h [ inl e ↦ rw e (record { unassigned = fr; grounded = tt }) | inr e ↦ rw e (record { unassigned = fr; grounded = tt }) ]
+pub known_placeable : (n : ℕ) (t : Trail) (l : ℤ) (k : Standing) → free n t l ≡ true → k ≢ Implied → Placeable n t (as_entry (standing_word k) l [])
+known_placeable n t l Assumed fr h = record { unassigned = fr; grounded = tt }
+known_placeable n t l Decided fr h = record { unassigned = fr; grounded = tt }
+known_placeable n t l Implied fr h = absurd (h refl)
 
 -- what writing trail, value and standing leaves
-pub record Laid (n len : ℕ) (l s : ℤ) (ws now : List ℤ) : Type 0 where
-  pub touched : Touched n len (index_of l) ws now
-  pub at_trail : word_at now (trail_at n len) ≡ l
-  pub at_value : word_at now (value_at n (index_of l)) ≡ l
-  pub at_standing : word_at now (row_at n (index_of l) 0) ≡ s
-  pub reason : (k : ℕ) → 1 ≤ k → k ≤ n → word_at now (row_at n (index_of l) k) ≡ word_at ws (row_at n (index_of l) k)
-
 pub laid : (n len : ℕ) (l s : ℤ) (ws w1 w2 now : List ℤ) → Wrote (trail_at n len) l ws w1 → Wrote (value_at n (index_of l)) l w1 w2
     → Wrote (row_at n (index_of l) 0) s w2 now → len < n → index_of l < n → Laid n len l s ws now
 laid n len l s ws w1 w2 now a b d h i = record {

@@ -12,13 +12,19 @@ use Rattle.theory.specs.Search.{Guide, Verdict.model, Verdict.refuted, missing, 
 use Rattle.theory.proofs.Trails.{parts_free}
 use Rattle.theory.proofs.Invariant.{first_passes}
 use Rattle.memory.specs.Words.{word_at, Outside}
-use Rattle.memory.specs.Decode.{literal_at, trail_of, assumptions_of, clause_of, slots_of, position_of, Sound}
+use Rattle.memory.specs.Candidates.{is_touched}
+use Rattle.memory.specs.Decode.{literal_at, entry_at, Marked, trail_of, assumptions_of, clause_of, slots_of, position_of, Sound}
 use Rattle.memory.specs.Deciding.{Decides, Decides.preferred, Decides.lowest, Decides.complete}
+use Rattle.memory.specs.Standing.{trail_at, position_at, Standing}
+use Rattle.memory.specs.Memories.{trail_in, position_in, clause_in, FalsifiedInHand, Keeps, Framed}
+use Rattle.memory.specs.declared.layout.Layout.{Layout}
+use Rattle.memory.specs.declared.layout.Extent.{Extent}
+use Rattle.memory.specs.declared.memory.Memory.{Memory}
 use Rattle.memory.specs.Plans.{ConflictInHand, Placed, Undone}
-use Rattle.memory.proofs.Words.{outside_wider}
+use Rattle.memory.proofs.Words.{outside_both, outside_wider}
 use Rattle.memory.proofs.Decode.{outside_trail, outside_coherent}
 use Rattle.memory.proofs.Storing.{sound_kept, position_kept}
-use Rattle.memory.proofs.Choosing.{literal_kept, hand_kept}
+use Rattle.memory.proofs.Choosing.{literal_kept, hand_kept, marked_kept, falsified_kept, touched_kept}
 
 -- a change among the clause in hand and the marks leaves the position
 module _ (n L a len f base count : ℕ) (was now : List ℤ) (low : 4 * n ≤ base) (high : base + count ≤ 6 * n) (so : Sound n L a len f was) (o : Outside base count was now) where
@@ -31,6 +37,68 @@ module _ (n L a len f base count : ℕ) (was now : List ℤ) (low : 4 * n ≤ ba
   pub margin_position : position_of n a len f now ≡ position_of n a len f was
   margin_position = position_kept n L a len len f was now so wide
       ∙ ap (λ t. record { assumptions = assumptions_of a was; trail = t; slots = slots_of n f was }) (outside_trail n L len base count was now low high so.coherent o)
+
+-- the same of a memory's words
+module _ (m : Memory) (base count : ℕ) (now : List ℤ) (low : 4 * m.layout.variables ≤ base) (high : base + count ≤ 6 * m.layout.variables) (o : Outside base count m.words.now now) where
+  pub frame_sound : length now ≡ length m.words.now → Standing m.layout m.extent now
+  frame_sound = margin_sound m.layout.variables m.layout.slots m.extent.assumptions m.extent.trail m.extent.slots base count m.words.now now low high m.sound o
+
+  pub frame_position : position_at m.layout m.extent now ≡ position_in m
+  frame_position = margin_position m.layout.variables m.layout.slots m.extent.assumptions m.extent.trail m.extent.slots base count m.words.now now low high m.sound o
+
+  pub frame_trail : trail_at m.layout m.extent now ≡ trail_in m
+  frame_trail = outside_trail m.layout.variables m.layout.slots m.extent.trail base count m.words.now now low high m.sound.coherent o
+
+-- what holds of layout and extent as they are holds of those that they are the same as
+pub rebased : (was now : Memory) → now.layout ≡ was.layout → now.extent ≡ was.extent → (P : Layout → Extent → Type 0) → P now.layout now.extent → P was.layout was.extent
+rebased was now l e P x = subst (λ z. P was.layout z) e (subst (λ y. P y now.extent) l x)
+
+-- a framed change, of which another follows, and what it leaves
+pub framed_both : (base count : ℕ) (was mid now : Memory) → Framed base count was mid → Framed base count mid now → Framed base count was now
+framed_both base count was mid now f h = record {
+  layout = h.layout ∙ f.layout;
+  extent = h.extent ∙ f.extent;
+  size = h.size ∙ f.size;
+  outside = outside_both base count was.words.now mid.words.now now.words.now f.outside h.outside;
+}
+
+pub framed_next : (b c : ℕ → ℕ) (was mid now : Memory) → Framed (b was.layout.variables) (c was.layout.variables) was mid → Framed (b mid.layout.variables) (c mid.layout.variables) mid now
+    → Framed (b was.layout.variables) (c was.layout.variables) was now
+framed_next b c was mid now f h = framed_both (b was.layout.variables) (c was.layout.variables) was mid now f (subst (λ y. Framed (b y.variables) (c y.variables) mid now) f.layout h)
+
+-- marks changed: the clause in hand is as falsified as it was
+pub marks_falsified : (was now : Memory) (k : ℕ) → Framed (5 * was.layout.variables) was.layout.variables was now → FalsifiedInHand was k → FalsifiedInHand now k
+marks_falsified was now k f h =
+    rebased now was (sym f.layout) (sym f.extent) (λ y e. (k ≤ y.variables) × (status (on (trail_at y e now.words.now)) (clause_of y.variables k now.words.now) ≡ falsified))
+    (h.0, falsified_kept was.layout.variables was.layout.slots was.extent.trail was.words.now now.words.now was.sound.coherent f.outside k h.0 h.1)
+
+-- and so are whether an entry is touched, and the chunk of a literal that was marked since
+pub marks_touched : (was now : Memory) (k : ℕ) → Framed (5 * was.layout.variables) was.layout.variables was now → k ≤ was.layout.variables → (p : ℕ) → p < was.extent.trail → (b : Bool)
+    → b ≡ is_touched (trail_in now) (clause_in now k) (entry_at now.layout.variables now.words.now p) → b ≡ is_touched (trail_in was) (clause_in was k) (entry_at was.layout.variables was.words.now p)
+marks_touched was now k f few p h b e =
+    rebased was now f.layout f.extent (λ y x. b ≡ is_touched (trail_at y x now.words.now) (clause_of y.variables k now.words.now) (entry_at y.variables now.words.now p)) e
+    ∙ touched_kept was.layout.variables was.layout.slots was.extent.trail was.words.now now.words.now was.sound.coherent f.outside k few p h
+
+pub marks_marked : (was now : Memory) → Framed (5 * was.layout.variables) was.layout.variables was now → (p : ℕ) → p < was.extent.trail → (later : List ℤ)
+    → Marked now.layout.variables (trail_in now) (in_chunk (literal_at now.layout.variables now.words.now p) (trail_in now)) later
+    → Marked was.layout.variables (trail_in was) (in_chunk (literal_at was.layout.variables was.words.now p) (trail_in was)) later
+marks_marked was now f p h later x =
+    marked_kept was.layout.variables was.layout.slots was.extent.trail was.words.now now.words.now was.sound.coherent f.outside p h later
+    (rebased was now f.layout f.extent (λ y e. Marked y.variables (trail_at y e now.words.now) (in_chunk (literal_at y.variables now.words.now p) (trail_at y e now.words.now)) later) x)
+
+-- a chunk marked on the trail as it was is marked on the same trail
+pub same_marked : (was now : Memory) → Framed (5 * was.layout.variables) was.layout.variables was now → (d : ℤ) → Marked was.layout.variables (trail_in was) (in_chunk d (trail_in was)) now.words.now
+    → Marked now.layout.variables (trail_in now) (in_chunk d (trail_in now)) now.words.now
+same_marked was now f d x =
+    rebased now was (sym f.layout) (sym f.extent) (λ y e. Marked y.variables (trail_at y e now.words.now) (in_chunk d (trail_at y e now.words.now)) now.words.now)
+    (subst (λ t. Marked was.layout.variables t (in_chunk d t) now.words.now) (sym (frame_trail was (5 * was.layout.variables) was.layout.variables now.words.now (omega arith) (omega arith) f.outside)) x)
+
+module _ (base count : ℕ) (was now : Memory) (f : Framed base count was now) (low : 4 * was.layout.variables ≤ base) (high : base + count ≤ 6 * was.layout.variables) where
+  pub same_position : position_in now ≡ position_in was
+  same_position = ap (λ y. position_at y now.extent now.words.now) f.layout ∙ ap (λ e. position_at was.layout e now.words.now) f.extent ∙ frame_position was base count now.words.now low high f.outside
+
+  pub same_keeps : Keeps was now
+  same_keeps = record { layout = f.layout; assumptions = ap (λ e. e.assumptions) f.extent; size = f.size }
 
 -- whatever taking a step comes to is that step
 module _ (n L : ℕ) (g : Guide) (p : Position) where
@@ -47,15 +115,15 @@ module _ (n L : ℕ) (g : Guide) (p : Position) where
 
 module _ (n L a len f : ℕ) (was now : List ℤ) (so : Sound n L a len f was) (o : Outside (5 * n) n was now) (g : Guide) (count : ℕ) (few : count ≤ n)
     (lk : Look n g.source (position_of n a len f was) (Some (clause_of n count was))) (fa : status (on (trail_of n len was)) (clause_of n count was) ≡ falsified) where
-  same_position : position_of n a len f now ≡ position_of n a len f was
-  same_position = margin_position n L a len f (5 * n) n was now (omega arith) (omega arith) so o
+  position_same : position_of n a len f now ≡ position_of n a len f was
+  position_same = margin_position n L a len f (5 * n) n was now (omega arith) (omega arith) so o
 
   same_clause : clause_of n count now ≡ clause_of n count was
   same_clause = hand_kept n L len was now so.coherent o count few
 
   -- what holds of position and clause before holds of them now
   carried : (P : Position → List ℤ → Type 0) → P (position_of n a len f was) (clause_of n count was) → P (position_of n a len f now) (clause_of n count now)
-  carried P h = subst (λ p. P p (clause_of n count now)) (sym same_position) (subst (P (position_of n a len f was)) (sym same_clause) h)
+  carried P h = subst (λ p. P p (clause_of n count now)) (sym position_same) (subst (P (position_of n a len f was)) (sym same_clause) h)
 
   pub conflict_planned : (root : ℕ) → root < len → Chosen L g.weighing (position_of n a len f was) (clause_of n count was) (literal_at n was root)
       → ConflictInHand n len now count root

@@ -16,12 +16,11 @@ use Rattle.theory.specs.Look.{Position, falsified_on, unit_on, Look}
 use Rattle.theory.proofs.Invariant.{look_asserts}
 use Rattle.theory.proofs.Looking.{first_of, either_slot, look_after, look_looks}
 use Rattle.theory.proofs.Valuations.{valuation_true}
-use Rattle.memory.specs.Words.{word_at, words_from, clause_at, row_at, Outside}
-use Rattle.memory.specs.Decode.{trail_of, clause_of, slot_of, slots_of, Coherent, Stored}
+use Rattle.memory.specs.Words.{word_at, words_from, clause_at}
+use Rattle.memory.specs.Decode.{trail_of, clause_of, slot_of, Coherent}
 use Rattle.memory.proofs.Words.{words_all, has_word, word_has}
 use Rattle.memory.specs.Learned.{learned_at, WithinCount}
 use Rattle.memory.specs.InHand.{InRange}
-use Rattle.memory.proofs.Storing.{slots_same, stored_same}
 use Rattle.memory.proofs.Reading.{part_word, part_is, values_are}
 
 -- what the clauses still to come give, where `so_far` is the first unit one so far and none was falsified
@@ -142,11 +141,3 @@ look_asserting n m law t w slots C e =
     let p : Position = record { assumptions = []; trail = t; slots = slots } in
     elim (look_asserts n m p law w (subst (Look n m p) (sym e) (look_looks n m p)))
     [ inl f ↦ ap (λ s. is_falsified s || is_unit s) f | inr f ↦ ap (λ s. is_falsified s || is_unit s) f.1 ]
-
--- the slots are as they were where only the clause in hand or the marks changed
-module _ (n base count : ℕ) (was now : List ℤ) (b : base + count ≤ 6 * n) (o : Outside base count was now) where
-  pub slots_outside : (filled : ℕ) → slots_of n filled now ≡ slots_of n filled was
-  slots_outside filled = slots_same n filled was now (λ s k h g. o.above (row_at n (n + s) k) (omega arith))
-
-  pub stored_outside : (filled : ℕ) → Stored n filled was → Stored n filled now
-  stored_outside filled = stored_same n filled was now (λ s k h g. o.above (row_at n (n + s) k) (omega arith))

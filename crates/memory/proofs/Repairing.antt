@@ -1,6 +1,5 @@
 -- The repair of a conflict: what each of its parts asks, and where they lead.
-use Rattle.std.proofs.Common.{◌≡◌, ℕ, ◌+◌, ◌-◌, ◌*◌, ◌<◌, ◌≤◌, Bool, true, false, not, List, [], ◌∷◌, length, ℤ, neg_ℤ, All, filter, sym, refl, ap, ◌∙◌, subst, arith}
-use Rattle.std.proofs.lemmas.Bool.{ltb-true}
+use Rattle.std.proofs.Common.{◌≡◌, ℕ, ◌+◌, ◌-◌, ◌*◌, ◌<◌, ◌≤◌, Bool, true, not, List, [], ◌∷◌, length, ℤ, neg_ℤ, All, filter, sym, refl, ap, ◌∙◌, subst, arith}
 use Rattle.rules.specs.Literals.{in_range, has, any_pass}
 use Rattle.rules.specs.Clauses.{Status.falsified, status}
 use Rattle.rules.proofs.Literals.{has_all, has_any}
@@ -16,10 +15,10 @@ use Rattle.memory.specs.Words as words
 use Rattle.memory.specs.Words.{word_at, index_of, clause_at, row_at, size, Outside}
 use Rattle.memory.specs.Decode.{literal_at, trail_of, assumptions_of, clause_of, slots_of, position_of, marked_index, marked, unmarked, Marked, Coherent, Stored, Sound, Places}
 use Rattle.memory.specs.Repair.{Repairs}
-use Rattle.memory.proofs.Words.{slot_behind, index_range, index_neg, words_same, has_word, words_all, any_first, outside_both, outside_wider}
+use Rattle.memory.proofs.Words.{index_range, index_neg, words_same, has_word, words_all, outside_both, outside_wider}
 use Rattle.memory.proofs.Decode.{length_trail, false_ranged, outside_trail}
 use Rattle.memory.proofs.Marking.{marked_is}
-use Rattle.memory.proofs.Storing.{touched_outside, sound_kept, position_kept, before_trail, before_coherent}
+use Rattle.memory.proofs.Storing.{sound_kept, position_kept, before_trail, before_coherent}
 
 -- what is kept goes by what is said of the trail's literals
 kept_cong : (f g : ℤ → Bool) (t : Trail) → ((l : ℤ) → on t l ≡ true → f l ≡ g l) → filter (λ e. not (f (literal e))) t ≡ filter (λ e. not (g (literal e))) t
@@ -69,9 +68,8 @@ pub record Resolved (n L count len filled k j root : ℕ) (S : ℤ → Bool) (w0
 -- and once the first marked literal in hand is found
 pub record Found (n L count len filled k j root at : ℕ) (S : ℤ → Bool) (w0 w1 : List ℤ) : Type 0 where
   pub resolved : Resolved n L count len filled k j root S w0 w1
-  pub most : at ≤ j
-  pub before : (i : ℕ) → i < at → marked n w1 (word_at w1 (clause_at n 0 + i)) ≡ false
-  pub found : at < j → marked n w1 (word_at w1 (clause_at n 0 + at)) ≡ true
+  pub within : at < j
+  pub found : marked n w1 (word_at w1 (clause_at n 0 + at)) ≡ true
 
 module _ (n L count len filled k j root : ℕ) (S : ℤ → Bool) (w0 w1 : List ℤ) (h : Resolved n L count len filled k j root S w0 w1) where
   abbrev T : Trail
@@ -86,6 +84,9 @@ module _ (n L count len filled k j root : ℕ) (S : ℤ → Bool) (w0 w1 : List 
   pub left_ranged : (i : ℕ) → i < j → in_range n (word_at w1 (clause_at n 0 + i)) ≡ true
   left_ranged = false_ranged n T formed w1 (clause_at n 0) j
       (subst (AllFalse T) (sym h.clause) (learned_false n T formed d (clause_of n k w0) h.decision h.conflict h.touching S h.analysed))
+
+  pub touching_left : any_pass (marked n w1) (clause_of n j w1) ≡ true
+  touching_left = ap (any_pass (marked n w1)) h.clause ∙ some_marked n T formed d (clause_of n k w0) h.decision h.conflict h.touching S h.analysed w1 h.marks
 
   undone_is : unmarked n w1 (trail_of n len w1) ≡ without_chunk T d
   undone_is = ap (unmarked n w1) (outside_trail n L len (4 * n) (2 * n) w0 w1 (omega arith) (omega arith) h.sound.coherent h.frame)
@@ -105,13 +106,9 @@ module _ (n L count len filled k j root at : ℕ) (S : ℤ → Bool) (w0 w1 : Li
   abbrev u : ℤ
   u = word_at w1 (clause_at n 0 + at)
 
-  pub there : at < j
-  there = ltb-true at j (any_first (marked n w1) w1 (clause_at n 0) j at g.most g.before g.found ∙ ap (any_pass (marked n w1)) h.clause
-      ∙ some_marked n t h.sound.coherent.formed root_literal (clause_of n k w0) h.decision h.conflict h.touching S h.analysed w1 h.marks)
-
   u_left : (S u ≡ true) × (in_chunk root_literal t (neg_ℤ u) ≡ true)
   u_left = found_left n t h.sound.coherent.formed root_literal (clause_of n k w0) h.decision h.conflict h.touching S h.analysed w1 h.marks u
-      (subst (λ D. has D u ≡ true) h.clause (has_word w1 (clause_at n 0) j at there)) (g.found there)
+      (subst (λ D. has D u ≡ true) h.clause (has_word w1 (clause_at n 0) j at g.within)) g.found
 
   formed_next : WellFormed n (implied u (others_of u (learned n S)) ∷ without_chunk t root_literal)
   formed_next = next_formed n t h.sound.coherent.formed root_literal (clause_of n k w0) h.decision h.conflict h.touching S h.analysed u u_left.0 u_left.1
@@ -163,7 +160,7 @@ module _ (n L count len filled k j root at : ℕ) (S : ℤ → Bool) (w0 w1 : Li
 
       clause_placed : clause_of n j w3 ≡ learned n S
       clause_placed =
-          let a = subst (λ v. index_of v < n) (sym same_literal) (index_range n u (left_ranged n L count len filled k j root S w0 w1 h at there)).1 in
+          let a = subst (λ v. index_of v < n) (sym same_literal) (index_range n u (left_ranged n L count len filled k j root S w0 w1 h at g.within)).1 in
           let r = co3.fits in
           let f = h.few in
           words_same w2 w3 (clause_at n 0) (clause_at n 0) j (λ i l. to.below (clause_at n 0 + i) (omega arith) (omega arith) (omega arith)) ∙ same_learned
@@ -201,14 +198,3 @@ module _ (n L count len filled k j root at : ℕ) (S : ℤ → Bool) (w0 w1 : Li
             let es : slots_of n r w4 ≡ written L (slots_of n filled w0) (learned n S) =
             sl ∙ ap (λ D. written L (slots_of n filled w3) D) clause_placed ∙ ap (λ xs. written L xs (learned n S)) (ap (λ p. p.slots) position_placed) in
             record { placed = u; left = S; analysed = h.analysed; is_left = u_left.0; touched = u_left.1; leads = rw (ea, et, es) }
-
-        pub repair_frame : ((i : ℕ) → size n L ≤ i → word_at w4 i ≡ word_at w3 i) → Outside (2 * n) (size n L - 2 * n) w0 w4
-        repair_frame bh =
-            let a = subst (λ v. index_of v < n) (sym same_literal) (index_range n u (left_ranged n L count len filled k j root S w0 w1 h at there)).1 in
-            let r = co3.fits in
-            let q = touched_outside n rest (index_of (word_at w2 (clause_at n at))) w2 w3 (omega arith) a to in
-            let m = slot_behind n L 0 in
-            record {
-              below = λ i l. be i (omega arith) ∙ (q.below i l ∙ around.below i l);
-              above = λ i l. bh i (omega arith) ∙ (q.above i (omega arith) ∙ around.above i (omega arith));
-            }

@@ -1,9 +1,9 @@
 -- Marks that go back along the trail tell which assumed literals a conflict rests on.
 use Rattle.std.proofs.Common.{◌≡◌, ℕ, zero, suc, ◌+◌, ◌*◌, ◌<◌, ◌≤◌, Bool, true, false, cond, ◌&&◌, ◌||◌, eqb, ◌⊎◌, List, [], ◌∷◌, ℤ, pos, neg_ℤ, nat_abs, filter, sym, refl, ap, ◌∙◌, subst, inl, inr, add-one, arith}
 use mathlib.Core.Path.{fun_ext}
-use mathlib.Core.Bool.{false≢true}
+use mathlib.Core.Bool.{and_comm, false≢true}
 use Rattle.std.proofs.lemmas.Bool.{cond-true, cond_both, cases_Bool, cases_eq, eqb-true, eq-eqb, ne_eqb, and_parts, and_from, and_cases, and_right, or_cases, or_left, or_right, both_ways}
-use Rattle.std.proofs.lemmas.Bool.Decides.{same_from_decides}
+use Rattle.std.specs.Cmp.{both_ways as each_way}
 use Rattle.std.proofs.Math.Bool.{or-false}
 use Rattle.rules.specs.Literals.{same, has}
 use Rattle.rules.specs.Values.{value_in}
@@ -26,10 +26,6 @@ use Rattle.memory.proofs.Counting.{index_one}
 use Rattle.memory.proofs.Resolving.{false_up}
 use Rattle.memory.proofs.Analysing.{same_clause}
 use Rattle.memory.proofs.Choosing.{trail_kept, entry_kept}
-
--- two tests of which each gives the other
-each_way : (a b : Bool) → (a ≡ true → b ≡ true) → (b ≡ true → a ≡ true) → a ≡ b
-each_way a b f g = same_from_decides a b (f, g) ((λ e. e), (λ e. e))
 
 -- MARKED MEMBERS
 
@@ -296,8 +292,9 @@ module _ (n len : ℕ) (ws : List ℤ) (l : ℤ) where
 
   -- a literal that is true, and one that is not
   pub root_true : (x : ℕ) → x ≡ index_of l → True ≡ value_in (on (trail_of n len ws)) l
-      → (eqb (nat_abs (word_at ws (row_at n x 0))) 1 && marked_index n ws x) ≡ has (filter (marked n ws) (assumed_literals (trail_of n len ws))) l
-  root_true x i v = ap (λ z. eqb (nat_abs (word_at ws (row_at n z 0))) 1 && marked_index n ws z) i ∙ sym (root_is ∙ rw (value_true (on (trail_of n len ws)) l v))
+      → (marked_index n ws x && eqb (nat_abs (word_at ws (row_at n x 0))) 1) ≡ has (filter (marked n ws) (assumed_literals (trail_of n len ws))) l
+  root_true x i v = and_comm (marked_index n ws x) (eqb (nat_abs (word_at ws (row_at n x 0))) 1)
+      ∙ ap (λ z. eqb (nat_abs (word_at ws (row_at n z 0))) 1 && marked_index n ws z) i ∙ sym (root_is ∙ rw (value_true (on (trail_of n len ws)) l v))
 
   pub root_other : (v : Value) → (v ≡ True → ⊥) → v ≡ value_in (on (trail_of n len ws)) l → false ≡ has (filter (marked n ws) (assumed_literals (trail_of n len ws))) l
   root_other v d e = sym (root_is ∙ rw (value_other (on (trail_of n len ws)) l v d e))

@@ -1,14 +1,18 @@
 -- Slots: what is stored in them, what a write to the next one adds, and what other writes leave of a position.
-use Rattle.std.proofs.Common.{◌≡◌, ℕ, suc, ◌+◌, ◌*◌, ◌<◌, ◌≤◌, true, false, ltb, List, [], ◌∷◌, ◌++◌, length, ℤ, pos, nat_abs, All, sym, ap, ◌∙◌, subst, inl, inr, add_assoc, zero-add, arith}
+use Rattle.std.proofs.Common.{◌≡◌, ℕ, suc, ◌+◌, ◌*◌, ◌<◌, ◌≤◌, true, false, ltb, ◌≢◌, List, [], ◌∷◌, ◌++◌, length, ℤ, pos, nat_abs, All, sym, ap, ◌∙◌, subst, inl, inr, add_assoc, zero-add, arith}
 use Rattle.std.proofs.lemmas.List.FromFn.{length-map-range_with_len, map-range_with_len_more}
 use Rattle.std.proofs.lemmas.Bool.{cases_eq, lt-ltb, le-ltb}
 use Rattle.rules.specs.Literals.{in_range}
-use Rattle.theory.specs.Trail.{Entry, WellFormed, word}
+use Rattle.theory.specs.Trail.{Entry, free, WellFormed, word}
 use Rattle.theory.specs.Conflict.{written}
-use Rattle.memory.specs.Words.{word_at, words_from, index_of, trail_at, value_at, row_at, Wrote, Outside, Touched}
-use Rattle.memory.specs.Decode.{trail_of, assumptions_of, slot_count, slot_of, slots_of, position_of, Coherent, Stored, Sound, Places}
-use Rattle.memory.proofs.Words.{counted_same, words_same, all_words, rows_apart, slot_behind, reason_before}
-use Rattle.memory.proofs.Decode.{entry_same, trail_same, place_at}
+use Rattle.memory.specs.Words.{word_at, words_from, index_of, trail_at, value_at, row_at, Wrote, Outside, Touched, Laid}
+use Rattle.weights.specs.declared.weigher.Standing.{Standing}
+use Rattle.weights.specs.declared.weigher.Standing.TheVariants.{Implied}
+use Rattle.memory.specs.Decode.{as_entry, standing_word, trail_of, assumptions_of, slot_count, slot_of, slots_of, position_of, Coherent, Stored, Sound, Places}
+use Rattle.memory.proofs.Words.{index_range, counted_same, words_same, all_words, rows_apart, slot_behind, reason_before}
+use Rattle.memory.proofs.Decode.{entry_same, trail_same, place_at, room_for}
+use Rattle.memory.proofs.Placing.{known_entry, known_placeable, pushed, pushed_coherent}
+use Rattle.theory.proofs.Trails.{free_parts}
 
 -- a slot is read from its row
 pub slot_same : (n s : ℕ) (was now : List ℤ) → ((k : ℕ) → k ≤ slot_count n was s → word_at now (row_at n (n + s) k) ≡ word_at was (row_at n (n + s) k)) → slot_of n now s ≡ slot_of n was s
@@ -71,6 +75,18 @@ places n L len x e was now a b tr co to =
       position = λ count filled so. position_kept n L count len (len + 1) filled was now so o
           ∙ ap (λ t. record { assumptions = assumptions_of count was; trail = t; slots = slots_of n filled was }) tr;
     }
+
+-- a free literal that is laid as assumed or decided is placed
+pub known_placed : (n L len : ℕ) (l : ℤ) (k : Standing) (was now : List ℤ) → Coherent n L len was → free n (trail_of n len was) l ≡ true → k ≢ Implied
+    → Laid n len l (standing_word k) was now → length now ≡ length was → Places n L len (as_entry (standing_word k) l []) was now × Coherent n L (len + 1) now
+known_placed n L len l k was now st fr h la same =
+    let i = (index_range n l (free_parts n (trail_of n len was) l fr).0).1 in
+    let p = known_placeable n (trail_of n len was) l k fr h in
+    let r = room_for _ _ _ _ st.formed p in
+    let e = known_entry n now l k la.at_standing h in
+    let tr = pushed n L len l _ was now st fr r la.touched la.at_trail la.at_value e in
+    let co = pushed_coherent n L len l _ was now st fr r la.touched la.at_trail la.at_value e same (rw (la.reason 1 (omega arith) (omega arith)) (st.counts (index_of l) i)) p in
+    (places n L len (index_of l) _ was now r i tr co la.touched, co)
 
 -- what a change among the slots leaves of the rest
 module _ (n L len : ℕ) (was now : List ℤ) (st : Coherent n L len was) (o : (i : ℕ) → i < row_at n n 0 → word_at now i ≡ word_at was i) where

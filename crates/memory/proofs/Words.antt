@@ -1,13 +1,14 @@
 -- Laws of addresses, of what is read at them, and of frames.
-use Rattle.std.proofs.Common.{◌≡◌, ℕ, zero, suc, ◌+◌, ◌*◌, ◌<◌, ◌≤◌, Bool, true, false, ltb, ◌≢◌, ◌⊎◌, List, map, length, set, ℤ, pos, negsuc, neg_ℤ, All, sym, refl, ap, ◌∙◌, subst, inl, inr, add-zero, add_assoc, suc-mul, add-one, one-add, arith}
+use Rattle.std.proofs.Common.{◌≡◌, ℕ, zero, suc, ◌+◌, ◌-◌, ◌*◌, ◌<◌, ◌≤◌, Bool, true, false, ◌≢◌, ◌⊎◌, List, map, length, set, ℤ, pos, negsuc, neg_ℤ, All, Some, None, Option, sym, refl, ap, ◌∙◌, subst, inl, inr, add-zero, add_assoc, suc-mul, add-one, one-add, arith}
 use mathlib.Core.Bool.{false≢true}
-use Rattle.std.specs.List.{range_with_len}
+use Rattle.std.specs.List.{range_with_len, CopiedTo, SameBelow, SameFrom}
 use Rattle.std.proofs.lemmas.List.{get_or-set_same, get_or-set_other}
 use Rattle.std.proofs.lemmas.Nat.{mul-add-lt, mul-le}
-use Rattle.std.proofs.lemmas.Bool.{cases_order, cases_lt, cases_Bool, or_cases, or_left, both_ways, lt-ltb, le-ltb}
+use Rattle.std.proofs.lemmas.Bool.{cases_order, cases_Bool, or_cases, or_left, both_ways}
+use Rattle.std.specs.Option.{MatchOption, is_some, IsSome}
 use Rattle.rules.specs.Literals.{var, same, in_range, has, any_pass}
 use Rattle.rules.proofs.Literals.{range_bounds, same_true, eq_same, has_later, all_has, has_all, any_has, has_any}
-use Rattle.memory.specs.Words.{word_at, words_from, index_of, row_at, size, Wrote, Outside}
+use Rattle.memory.specs.Words.{word_at, words_from, FirstWord, index_of, row_at, size, Wrote, Outside}
 
 pub wrote : (ws : List ℤ) (i : ℕ) (v : ℤ) → i < length ws → Wrote i v ws (set ws i v)
 wrote ws i v h = record { at = get_or-set_same ws i v (pos 0) h; rest = λ j d. get_or-set_other ws i j v (pos 0) d }
@@ -63,6 +64,13 @@ counted_same f g a b (suc k) h =
 pub words_same : (was now : List ℤ) (from to k : ℕ) → ((i : ℕ) → i < k → word_at now (to + i) ≡ word_at was (from + i)) → words_from now to k ≡ words_from was from k
 words_same was now from to k h = counted_same (word_at now) (word_at was) to from k h
 
+-- what a copy of so many words leaves
+pub copied_words : (was now : List ℤ) (from to k : ℕ) → CopiedTo was now from to (from + k - from) → words_from now to k ≡ words_from was from k
+copied_words was now from to k c = words_same was now from to k (λ i h. let e : to + i - to ≡ i = omega arith in c (to + i) (pos 0) (omega arith) (omega arith) ∙ ap (λ j. word_at was (from + j)) e)
+
+pub copied_outside : (was now : List ℤ) (from to k : ℕ) → SameBelow was now to → SameFrom was now (to + (from + k - from)) → Outside to k was now
+copied_outside was now from to k b a = record { below = λ i h. b i (pos 0) h; above = λ i h. a i (pos 0) (omega arith) }
+
 -- the list has the words that it is read from, and no others
 pub has_word : (ws : List ℤ) (base k i : ℕ) → i < k → has (words_from ws base k) (word_at ws (base + i)) ≡ true
 has_word ws base zero i h = let q : ⊥ = omega arith in absurd q
@@ -84,19 +92,27 @@ words_all P ws base k h = has_all P (words_from ws base k) (λ x e. let r = word
 pub all_words : (P : ℤ → Type 0) (ws : List ℤ) (base k : ℕ) → All P (words_from ws base k) → (i : ℕ) → i < k → P (word_at ws (base + i))
 all_words P ws base k h i l = all_has P (words_from ws base k) h (word_at ws (base + i)) (has_word ws base k i l)
 
--- the first word that passes a test, where r is its number, tells whether one passes
-pub any_first : (test : ℤ → Bool) (ws : List ℤ) (base k r : ℕ) → r ≤ k → ((i : ℕ) → i < r → test (word_at ws (base + i)) ≡ false)
-    → (r < k → test (word_at ws (base + r)) ≡ true) → ltb r k ≡ any_pass test (words_from ws base k)
-any_first test ws base k r h before found = elim (cases_lt r k) [
-  | inl l ↦ lt-ltb r k l ∙ sym (has_any test (words_from ws base k) (word_at ws (base + r)) (has_word ws base k r l) (found l))
-  | inr l ↦ le-ltb r k l ∙ sym (elim (cases_Bool (any_pass test (words_from ws base k))) [
-    | inl e ↦
-        let y = any_has test (words_from ws base k) e in
-        let z = word_has ws base k y.0 y.1 in let b = z.1 in
-        absurd (both_ways (test (word_at ws (base + z.0))) (before z.0 (omega arith)) (subst (λ x. test x ≡ true) (sym z.2) y.2))
-    | inr e ↦ e
-  ])
-]
+-- what a search by number finds is the first word that passes
+pub first_numbered : (test : ℤ → Bool) (ws : List ℤ) (base k : ℕ) (o : Option ℕ)
+    → MatchOption o ((i : ℕ) → 0 ≤ i → i < k → test (word_at ws (base + i)) ≡ false)
+    (λ r. (0 ≤ r) × (r < k) × (test (word_at ws (base + r)) ≡ true) × ((i : ℕ) → 0 ≤ i → i < r → test (word_at ws (base + i)) ≡ false)) → FirstWord test ws base k o
+first_numbered test ws base k None m = λ i h. m i (omega arith) h
+first_numbered test ws base k (Some r) m = (m.1, m.2, λ i h. m.3 i (omega arith) h)
+
+-- whether there is a first word that passes tells whether one passes
+pub first_any : (test : ℤ → Bool) (ws : List ℤ) (base k : ℕ) (o : Option ℕ) → FirstWord test ws base k o → is_some o ≡ any_pass test (words_from ws base k)
+first_any test ws base k (Some r) f = sym (has_any test (words_from ws base k) (word_at ws (base + r)) (has_word ws base k r f.0) f.1)
+first_any test ws base k None f = sym (elim (cases_Bool (any_pass test (words_from ws base k))) [
+  | inl e ↦
+      let y = any_has test (words_from ws base k) e in
+      let z = word_has ws base k y.0 y.1 in
+      absurd (both_ways (test (word_at ws (base + z.0))) (f z.0 z.1) (subst (λ x. test x ≡ true) (sym z.2) y.2))
+  | inr e ↦ e
+])
+
+-- where one passes, there is a first
+pub first_there : (test : ℤ → Bool) (ws : List ℤ) (base k : ℕ) (o : Option ℕ) → FirstWord test ws base k o → any_pass test (words_from ws base k) ≡ true → IsSome o
+first_there test ws base k o f e = first_any test ws base k o f ∙ e
 
 -- frames
 pub outside_none : (base count : ℕ) (ws : List ℤ) → Outside base count ws ws

@@ -1,7 +1,9 @@
 -- What a session's words stand for.
-use Rattle.std.specs.Prelude.{◌≡◌, ℕ, zero, suc, ◌+◌, ◌*◌, ◌<◌, ◌≤◌, Bool, true, false, cond, not, List, [], ◌∷◌, map, length, ℤ, pos, neg_ℤ, filter, ◌==◌, unsigned_abs}
+use Rattle.std.specs.Prelude.{◌≡◌, ℕ, zero, suc, ◌+◌, ◌*◌, ◌<◌, ◌≤◌, Bool, true, false, cond, not, ◌&&◌, List, [], ◌∷◌, map, length, ℤ, pos, neg_ℤ, filter, ◌==◌, unsigned_abs}
 use Rattle.std.specs.List.{range_with_len}
 use Rattle.rules.specs.Literals.{in_range}
+use Rattle.weights.specs.declared.weigher.Standing.{Standing}
+use Rattle.weights.specs.declared.weigher.Standing.TheVariants.{Assumed, Decided, Implied}
 use Rattle.theory.specs.Trail.{Entry, Entry.assumed, Entry.decided, Entry.implied, Trail, literal, on, WellFormed, word}
 use Rattle.theory.specs.Look.{Position}
 use Rattle.theory.specs.Search.{placed}
@@ -10,6 +12,21 @@ use Rattle.memory.specs.Words.{word_at, words_from, index_of, trail_at, value_at
 -- what a row's first word says of how a literal stands: 3 for implied, 1 for assumed, anything else for decided
 abbrev pub as_entry : ℤ → ℤ → List ℤ → Entry
 as_entry s l others = cond (unsigned_abs s == 3) (implied l others) (cond (unsigned_abs s == 1) (assumed l) (decided l))
+
+-- the same without its literals, and the word that is written for it
+abbrev pub standing_of : ℤ → Standing
+standing_of s = cond (unsigned_abs s == 3) Implied (cond (unsigned_abs s == 1) Assumed Decided)
+
+abbrev pub standing_word : Standing → ℤ
+standing_word Assumed = pos 1
+standing_word Decided = pos 2
+standing_word Implied = pos 3
+
+-- whether a row's first word says so
+abbrev pub stands : ℤ → Standing → Bool
+stands s Implied = unsigned_abs s == 3
+stands s Assumed = unsigned_abs s == 1
+stands s Decided = not (unsigned_abs s == 3) && not (unsigned_abs s == 1)
 
 -- how many other literals the reason of the variable of index x has, and which
 abbrev pub reason_count : ℕ → List ℤ → ℕ → ℕ

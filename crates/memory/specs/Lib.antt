@@ -1,11 +1,15 @@
 pub mod Words
 pub mod Decode
+pub mod Standing
+pub mod Props
+pub mod Memories
 pub mod Analysis
 pub mod Repair
 pub mod InHand
 pub mod Learned
 pub mod Finding
 pub mod Candidates
+pub mod Guides
 pub mod Reports
 pub mod Naming
 pub mod Deciding

@@ -78,11 +78,7 @@ abbrev pub reported_as : Result Report Refusal → Reply
 reported_as (Ok report) = reported (report_of report)
 reported_as (Err refusal) = refused (refusal_number refusal)
 
--- why the latest run was refused, if it was
+-- why a run was refused, if it was
 abbrev pub refusal_of : Result Report Refusal → Option Refusal
 refusal_of (Ok report) = None
 refusal_of (Err refusal) = Some refusal
-
-abbrev pub refusal_in : Option (Result Report Refusal) → Option Refusal
-refusal_in None = None
-refusal_in (Some given) = refusal_of given

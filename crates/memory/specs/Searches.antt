@@ -5,11 +5,11 @@ use Rattle.theory.specs.Trail.{assumed_literals}
 use Rattle.theory.specs.Run.{Search}
 use Rattle.memory.specs.Words.{word_at}
 use Rattle.memory.specs.Decode.{marked}
-use Rattle.memory.specs.Learned.{WithinCount}
 use Rattle.memory.specs.Reports.{verdict_of}
-use Rattle.memory.specs.Plans.{trail_at, position_at, Standing}
+use Rattle.memory.specs.Standing.{trail_at, position_at}
 use Rattle.memory.specs.declared.layout.Layout.{Layout}
 use Rattle.memory.specs.declared.layout.Extent.{Extent}
+use Rattle.memory.specs.declared.memory.Memory.{Memory}
 use Rattle.memory.specs.declared.report.Verdict.{Verdict}
 use Rattle.memory.specs.declared.report.Verdict.TheVariants.{Open, Paused, Model, Refuted}
 
@@ -36,7 +36,6 @@ names_by Refuted ls = ls
 abbrev pub search_at : Layout → Extent → Verdict → Option ℕ → List ℤ → Search
 search_at layout extent verdict failed ws = record { position = position_at layout extent ws; verdict = verdict_of verdict; named = names_by verdict (named_at layout extent failed ws) }
 
--- The words stand for a search: for its position, and an assumption found false is one of the assumptions.
-pub record Alive (layout : Layout) (extent : Extent) (failed : Option ℕ) (ws : List ℤ) : Type 0 where
-  pub stands : Standing layout extent ws
-  pub denied : WithinCount extent.assumptions failed
+-- the search of a memory
+abbrev pub search_in : Memory → Verdict → Option ℕ → Search
+search_in m verdict failed = search_at m.layout m.extent verdict failed m.words.now

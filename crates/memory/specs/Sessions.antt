@@ -9,7 +9,7 @@ use Rattle.theory.specs.Events.{Event, EachRun, granted_runs, reported_steps}
 use Rattle.theory.specs.Promise.{History, Promise, step_bound}
 use Rattle.memory.specs.Words.{size}
 use Rattle.memory.specs.Decode.{assumptions_of}
-use Rattle.memory.specs.Searches.{search_at}
+use Rattle.memory.specs.Searches.{search_in}
 use Rattle.memory.specs.declared.report.Verdict.{Verdict}
 use Rattle.memory.specs.declared.report.Verdict.TheVariants.{Open, Paused, Model, Refuted}
 use Rattle.memory.specs.declared.report.Refusal.{Refusal}
@@ -27,13 +27,13 @@ abbrev pub idle_state : Idle → State
 idle_state s = idle (standing s)
 
 abbrev pub searched : Search → Searched
-searched s = search_at s.layout s.extent s.verdict s.failed s.words.now
+searched s = search_in s.memory s.verdict s.failed
 
 abbrev pub search_state : Search → State
 search_state s = searching (searched s)
 
 abbrev pub found : Settled → Searched
-found s = search_at s.layout s.extent s.verdict s.failed s.words.now
+found s = search_in s.memory s.verdict s.failed
 
 abbrev pub settled_state : Settled → State
 settled_state s = settled (found s)
@@ -90,8 +90,8 @@ is_refuted Refuted = true
 -- 6: the verdict is not Model. 2: the variable is outside 1 to n.
 abbrev pub value_answer : Settled → ℕ → Result Bool Refusal
 value_answer s v = cond (is_model s.verdict)
-    (cond (in_range s.layout.variables (pos v)) (Ok (makes (assignment s.layout.variables (on (found s).position.trail)) (pos v))) (Err NoVariable)) (Err NoModel)
+    (cond (in_range s.memory.layout.variables (pos v)) (Ok (makes (assignment s.memory.layout.variables (on (found s).position.trail)) (pos v))) (Err NoVariable)) (Err NoModel)
 
 -- 7: the verdict is not Refuted. 2: the literal is 0, or its variable is outside 1 to n.
 abbrev pub named_answer : Settled → ℤ → Result Bool Refusal
-named_answer s l = cond (is_refuted s.verdict) (cond (in_range s.layout.variables l) (Ok (has (found s).named l)) (Err NoVariable)) (Err NotRefuted)
+named_answer s l = cond (is_refuted s.verdict) (cond (in_range s.memory.layout.variables l) (Ok (has (found s).named l)) (Err NoVariable)) (Err NotRefuted)

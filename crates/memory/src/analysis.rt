@@ -1,8 +1,7 @@
 //! The analysis of a falsified clause: its set of literals is held by variable in lent scratch bytes.
 ghost use Rattle.std.specs.Prelude.{◌≡◌, ℕ, ◌+◌, ◌*◌, ◌<◌, ◌≤◌, Bool, false, not, ◌&&◌, ◌||◌, length, replicate, ℤ, ◌==◌, unsigned_abs};
 ghost use Rattle.rules.specs.Literals.{has};
-ghost use Rattle.rules.specs.Clauses.{Status.falsified, status};
-ghost use Rattle.theory.specs.Trail.{on, WellFormed};
+ghost use Rattle.theory.specs.Trail.{WellFormed};
 ghost use Rattle.theory.specs.Chunks.{in_chunk};
 ghost use Rattle.theory.specs.Conflict.{learned, Analysed};
 ghost use Rattle.theory.proofs.Trails.{AllFalse};
@@ -10,10 +9,12 @@ ghost use Rattle.theory.proofs.Analysis.{analyse as analysis};
 ghost use Rattle.memory.specs.Words.{word_at, words_from, value_at, size, Outside};
 ghost use Rattle.memory.specs.Decode.{literal_at, entry_at, trail_of, clause_of, marked_index, marked, Marked, Coherent};
 ghost use Rattle.memory.specs.Analysis.{held, set_of, names_index, one, both_count, analysed_at};
+ghost use Rattle.memory.specs.Memories.{trail_in, clause_in, FalsifiedInHand, Framed};
 
-use crate::layout::{Layout, put_negated};
-use crate::marks::mark_chunk;
-use crate::trail::{index_at, variable};
+use crate::layout::{Layout, index_of};
+use crate::memory::Memory;
+use crate::values::is_open;
+use weights::weigher::Standing;
 
 /// Whether a variable is held.
 fn holds(scratch: &[u8], x: usize) -> bool
@@ -31,112 +32,109 @@ fn forget(scratch: &mut [u8], x: usize)
     scratch[x] = 0;
 }
 
-/// Holds a variable: 1 where that is new and the variable is marked, else 0.
-fn include(words: &[i32], layout: Layout, x: usize, scratch: &mut [u8]) -> usize
-    requires big { size layout.variables layout.slots ≤ length words.now }
-    requires within { x < layout.variables }
-    requires room { layout.variables ≤ length scratch.old }
-    ensures held { (y : ℕ) → held scratch.new y ≡ (held scratch.old y || y == x) }
-    ensures new { result ≡ one (not (held scratch.old x) && marked_index layout.variables words.now x) }
-    ensures small { result ≤ 1 }
-{
-    if scratch[x] != 0 {
-        return 0;
+impl Memory<'_> {
+    /// Analyses the falsified clause of `k` words in hand for the chunk of the literal at the place `root`, and marks that chunk.
+    /// What the analysis leaves is then the clause in hand, by rising variable; says how many literals that are.
+    pub(crate) fn analyse(&mut self, root: usize, k: usize, scratch: &mut [u8]) -> usize
+        requires rooted { root < self.old.extent.trail }
+        requires falsified { FalsifiedInHand self.old k }
+        requires room { self.old.layout.variables ≤ length scratch.old }
+        ensures left { (S : ℤ → Bool)
+            × Analysed (in_chunk (literal_at self.old.layout.variables self.old.words.now root) (trail_in self.old)) (trail_in self.old) (has (clause_in self.old k)) S
+            × (clause_of self.old.layout.variables result self.new.words.now ≡ learned self.old.layout.variables S) }
+        ensures marked { Marked self.old.layout.variables (trail_in self.old) (in_chunk (literal_at self.old.layout.variables self.old.words.now root) (trail_in self.old)) self.new.words.now }
+        ensures few { result ≤ self.old.layout.variables }
+        ensures frame { Framed (4 * self.old.layout.variables) (2 * self.old.layout.variables) self.old self.new }
+        ensures cleared { scratch.new ≡ replicate (length scratch.old) 0 }
+    {
+        self.mark_chunk(root);
+        scratch.fill(0);
+        let mut set = Held(scratch);
+        self.resolve(k, set.0);
+        collect(self.words, self.layout, self.extent.trail, set.0)
     }
-    scratch[x] = 1;
-    if layout.marked(words, x) { 1 } else { 0 }
-}
 
-/// Holds the variables of `k` words from `base` on, whose literals are false on the oldest `place` entries of the trail.
-/// Says how many of these are new and marked.
-fn include_all(
-    words: &[i32],
-    layout: Layout,
-    place: usize,
-    base: usize,
-    k: usize,
-    scratch: &mut [u8],
-) -> usize
-    requires big { size layout.variables layout.slots ≤ length words.now }
-    requires within { base + k ≤ length words.now }
-    requires formed { WellFormed layout.variables (trail_of layout.variables place words.now) }
-    requires falsified { AllFalse (trail_of layout.variables place words.now) (words_from words.now base k) }
-    requires room { layout.variables ≤ length scratch.old }
-    ensures held { (x : ℕ) → held scratch.new x ≡ (held scratch.old x || names_index (words_from words.now base k) x) }
-    ensures new { result + both_count (marked_index layout.variables words.now) (held scratch.old) (trail_of layout.variables place words.now)
-        ≡ both_count (marked_index layout.variables words.now) (held scratch.new) (trail_of layout.variables place words.now) }
-    ensures small { result ≤ k }
-{
-    let mut new: usize = 0;
-    for i in 0..k {
-        let x = index_at(words, layout, base + i);
-        new += include(words, layout, x, scratch);
+    /// Resolves the falsified clause of `k` words in hand back along the trail, until at most one of its literals is marked.
+    fn resolve(&self, k: usize, scratch: &mut [u8])
+        requires few { k ≤ self.now.layout.variables }
+        requires falsified { AllFalse (trail_in self.now) (clause_in self.now k) }
+        requires room { self.now.layout.variables ≤ length scratch.old }
+        requires clear { (x : ℕ) → held scratch.old x ≡ false }
+        ensures { set_of (trail_in self.now) (held scratch.new)
+            ≡ analysis (marked self.now.layout.variables self.now.words.now) (trail_in self.now) (has (clause_in self.now k)) }
+    {
+        let len = self.extent.trail;
+        let mut touching = self.include_all(len, self.layout.clause(0), k, scratch);
+        for place in (0..len).rev() {
+            if touching <= 1 {
+                break;
+            }
+            touching = self.resolve_at(place, touching, scratch);
+        }
     }
-    new
-}
 
-/// Whether a variable is marked and held.
-fn is_hit(words: &[i32], layout: Layout, x: usize, scratch: &[u8]) -> bool
-    requires big { size layout.variables layout.slots ≤ length words.now }
-    requires within { x < layout.variables }
-    requires room { layout.variables ≤ length scratch.now }
-    ensures { result ≡ (marked_index layout.variables words.now x && held scratch.now x) }
-{
-    layout.marked(words, x) && holds(scratch, x)
-}
-
-/// One step back along the trail, to the entry at `place`. Of the `touching` variables up to there that are marked and held,
-/// says how many are below it afterwards.
-fn resolve_at(
-    words: &[i32],
-    layout: Layout,
-    len: usize,
-    place: usize,
-    touching: usize,
-    scratch: &mut [u8],
-) -> usize
-    requires coherent { Coherent layout.variables layout.slots len words.now }
-    requires within { place < len }
-    requires room { layout.variables ≤ length scratch.old }
-    requires touching { touching ≡ both_count (marked_index layout.variables words.now) (held scratch.old) (trail_of layout.variables (place + 1) words.now) }
-    ensures touching { result ≡ both_count (marked_index layout.variables words.now) (held scratch.new) (trail_of layout.variables place words.now) }
-    ensures set { set_of (trail_of layout.variables len words.now) (held scratch.new)
-        ≡ analysed_at (marked layout.variables words.now) (entry_at layout.variables words.now place) (set_of (trail_of layout.variables len words.now) (held scratch.old)) }
-{
-    let x = variable(words, layout, len, place);
-    if !is_hit(words, layout, x, scratch) {
-        return touching;
+    /// One step back along the trail, to the entry at `place`. Of the `touching` variables up to there that are marked and held,
+    /// says how many are below it afterwards.
+    fn resolve_at(&self, place: usize, touching: usize, scratch: &mut [u8]) -> usize
+        requires within { place < self.now.extent.trail }
+        requires room { self.now.layout.variables ≤ length scratch.old }
+        requires touching { touching ≡ both_count (marked_index self.now.layout.variables self.now.words.now) (held scratch.old) (trail_of self.now.layout.variables (place + 1) self.now.words.now) }
+        ensures touching { result ≡ both_count (marked_index self.now.layout.variables self.now.words.now) (held scratch.new) (trail_of self.now.layout.variables place self.now.words.now) }
+        ensures set { set_of (trail_in self.now) (held scratch.new)
+            ≡ analysed_at (marked self.now.layout.variables self.now.words.now) (entry_at self.now.layout.variables self.now.words.now place) (set_of (trail_in self.now) (held scratch.old)) }
+    {
+        let x = self.variable(place);
+        if !self.is_hit(x, scratch) {
+            return touching;
+        }
+        if self.layout.standing(self.words, x) != Standing::Implied {
+            return touching - 1;
+        }
+        forget(scratch, x);
+        touching - 1 + self.include_all(place, self.layout.reason(x), self.reason_count(x), scratch)
     }
-    if !layout.implied(words, x) {
-        return touching - 1;
-    }
-    forget(scratch, x);
-    touching - 1
-        + include_all(
-            words,
-            layout,
-            place,
-            layout.reason(x),
-            layout.reason_count(words, x),
-            scratch,
-        )
-}
 
-/// Resolves the falsified clause of `k` words in hand back along the trail, until at most one of its literals is marked.
-fn resolve(words: &[i32], layout: Layout, len: usize, k: usize, scratch: &mut [u8])
-    requires coherent { Coherent layout.variables layout.slots len words.now }
-    requires few { k ≤ layout.variables }
-    requires falsified { AllFalse (trail_of layout.variables len words.now) (clause_of layout.variables k words.now) }
-    requires room { layout.variables ≤ length scratch.old }
-    requires clear { (x : ℕ) → held scratch.old x ≡ false }
-    ensures { set_of (trail_of layout.variables len words.now) (held scratch.new)
-        ≡ analysis (marked layout.variables words.now) (trail_of layout.variables len words.now) (has (clause_of layout.variables k words.now)) }
-{
-    let mut touching = include_all(words, layout, len, layout.clause(0), k, scratch);
-    let mut place = len;
-    while touching > 1 {
-        place -= 1;
-        touching = resolve_at(words, layout, len, place, touching, scratch);
+    /// Whether a variable is marked and held.
+    fn is_hit(&self, x: usize, scratch: &[u8]) -> bool
+        requires within { x < self.now.layout.variables }
+        requires room { self.now.layout.variables ≤ length scratch.now }
+        ensures { result ≡ (marked_index self.now.layout.variables self.now.words.now x && held scratch.now x) }
+    {
+        self.layout.marked(self.words, x) && holds(scratch, x)
+    }
+
+    /// Holds the variables of `k` words from `base` on, whose literals are false on the oldest `place` entries of the trail.
+    /// Says how many of these are new and marked.
+    fn include_all(&self, place: usize, base: usize, k: usize, scratch: &mut [u8]) -> usize
+        requires within { base + k ≤ length self.now.words.now }
+        requires formed { WellFormed self.now.layout.variables (trail_of self.now.layout.variables place self.now.words.now) }
+        requires falsified { AllFalse (trail_of self.now.layout.variables place self.now.words.now) (words_from self.now.words.now base k) }
+        requires room { self.now.layout.variables ≤ length scratch.old }
+        ensures held { (x : ℕ) → held scratch.new x ≡ (held scratch.old x || names_index (words_from self.now.words.now base k) x) }
+        ensures new { result + both_count (marked_index self.now.layout.variables self.now.words.now) (held scratch.old) (trail_of self.now.layout.variables place self.now.words.now)
+            ≡ both_count (marked_index self.now.layout.variables self.now.words.now) (held scratch.new) (trail_of self.now.layout.variables place self.now.words.now) }
+        ensures small { result ≤ k }
+    {
+        let mut new: usize = 0;
+        for literal in &self.words[base..base + k] {
+            new += self.include(index_of(*literal), scratch);
+        }
+        new
+    }
+
+    /// Holds a variable: 1 where that is new and the variable is marked, else 0.
+    fn include(&self, x: usize, scratch: &mut [u8]) -> usize
+        requires within { x < self.now.layout.variables }
+        requires room { self.now.layout.variables ≤ length scratch.old }
+        ensures held { (y : ℕ) → held scratch.new y ≡ (held scratch.old y || y == x) }
+        ensures new { result ≡ one (not (held scratch.old x) && marked_index self.now.layout.variables self.now.words.now x) }
+        ensures small { result ≤ 1 }
+    {
+        if holds(scratch, x) {
+            return 0;
+        }
+        scratch[x] = 1;
+        usize::from(self.layout.marked(self.words, x))
     }
 }
 
@@ -147,7 +145,7 @@ fn is_left(words: &[i32], layout: Layout, x: usize, scratch: &[u8]) -> bool
     requires room { layout.variables ≤ length scratch.now }
     ensures { result ≡ (held scratch.now x && not (unsigned_abs (word_at words.now (value_at layout.variables x)) == 0)) }
 {
-    holds(scratch, x) && layout.value(words, x).unsigned_abs() != 0
+    holds(scratch, x) && !is_open(words, layout, x)
 }
 
 /// Writes the literals of the held set into the clause in hand, by rising variable, and says how many there are.
@@ -159,10 +157,11 @@ fn collect(words: &mut [i32], layout: Layout, len: usize, scratch: &[u8]) -> usi
     ensures few { result ≤ layout.variables }
     ensures outside { Outside (4 * layout.variables) layout.variables words.old words.new }
 {
+    // The values read and the literals written are of one slice, so they are told apart by their numbers.
     let mut count: usize = 0;
     for x in 0..layout.variables {
         if is_left(words, layout, x, scratch) {
-            put_negated(words, 3 * layout.variables + x, layout.clause(count));
+            words[layout.clause(count)] = -layout.value(words, x);
             count += 1;
         }
     }
@@ -179,36 +178,4 @@ impl Drop for Held<'_> {
         self.0.fill(0);
         let Held(_) = self;
     }
-}
-
-/// Analyses the falsified clause of `k` words in hand for the chunk of the literal at the place `root`, and marks that chunk.
-/// What the analysis leaves is then the clause in hand, by rising variable; says how many literals that are.
-pub(crate) fn analyse(
-    words: &mut [i32],
-    layout: Layout,
-    len: usize,
-    root: usize,
-    k: usize,
-    scratch: &mut [u8],
-) -> usize
-    requires coherent { Coherent layout.variables layout.slots len words.old }
-    requires rooted { root < len }
-    requires few { k ≤ layout.variables }
-    requires falsified { status (on (trail_of layout.variables len words.old)) (clause_of layout.variables k words.old) ≡ falsified }
-    requires room { layout.variables ≤ length scratch.old }
-    ensures left { (S : ℤ → Bool)
-        × Analysed (in_chunk (literal_at layout.variables words.old root) (trail_of layout.variables len words.old))
-        (trail_of layout.variables len words.old) (has (clause_of layout.variables k words.old)) S
-        × (clause_of layout.variables result words.new ≡ learned layout.variables S) }
-    ensures marked { Marked layout.variables (trail_of layout.variables len words.old)
-        (in_chunk (literal_at layout.variables words.old root) (trail_of layout.variables len words.old)) words.new }
-    ensures few { result ≤ layout.variables }
-    ensures outside { Outside (4 * layout.variables) (2 * layout.variables) words.old words.new }
-    ensures cleared { scratch.new ≡ replicate (length scratch.old) 0 }
-{
-    mark_chunk(words, layout, len, root);
-    scratch.fill(0);
-    let mut set = Held(scratch);
-    resolve(words, layout, len, k, set.0);
-    collect(words, layout, len, set.0)
 }

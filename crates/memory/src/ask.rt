@@ -1,24 +1,23 @@
 //! The question to the source of rules.
-ghost use Rattle.std.specs.Prelude.{◌≡◌, ℕ, ◌*◌, ◌≤◌};
-ghost use Rattle.rules.specs.Sources.{Meaning, Lawful};
+ghost use Rattle.std.specs.Prelude.{◌≡◌, ◌*◌};
 ghost use Rattle.theory.specs.Trail.{valuation};
-ghost use Rattle.memory.specs.Words.{Outside};
-ghost use Rattle.memory.specs.Decode.{trail_of, Coherent};
-ghost use Rattle.memory.specs.InHand.{InRange, answer_in_hand, told_count};
+ghost use Rattle.memory.specs.InHand.{answer_in_hand};
+ghost use Rattle.memory.specs.Finding.{TakenWhole};
+ghost use Rattle.memory.specs.Memories.{trail_in, Framed};
 
-use crate::layout::Layout;
-use rules::source::{Source, Told};
+use crate::memory::Memory;
+use rules::source::Source;
 
-/// Questions the source on the values. A told clause is then in hand: it stands in the words behind them.
-pub(crate) fn ask<S: Source>(source: &S, words: &mut [i32], layout: Layout, len: usize) -> Told
-    requires count { (S.meaning source.now).count ≡ layout.variables }
-    requires lawful { Lawful (S.meaning source.now) }
-    requires coherent { Coherent layout.variables layout.slots len words.old }
-    ensures told { answer_in_hand layout.variables words.new result ≡ (S.meaning source.now).answer (valuation layout.variables (trail_of layout.variables len words.old)) }
-    ensures few { told_count result ≤ layout.variables }
-    ensures ranged { InRange layout.variables words.new (told_count result) }
-    ensures outside { Outside (4 * layout.variables) layout.variables words.old words.new }
-{
-    let n = layout.variables;
-    source.question(&mut words[3 * n..5 * n])
+impl Memory<'_> {
+    /// Questions the source on the values. A told clause is then in hand: it stands in the words behind them. Says how many
+    /// literals it has.
+    pub(crate) fn ask<S: Source>(&mut self, source: &S) -> Option<usize>
+        requires { (S.meaning source.now).count ≡ self.old.layout.variables }
+        ensures told { answer_in_hand self.old.layout.variables self.new.words.now result ≡ (S.meaning source.now).answer (valuation self.old.layout.variables (trail_in self.old)) }
+        ensures whole { TakenWhole self.old.layout.variables self.new.words.now result }
+        ensures frame { Framed (4 * self.old.layout.variables) self.old.layout.variables self.old self.new }
+    {
+        let n = self.layout.variables;
+        source.question(&mut self.words[3 * n..5 * n])
+    }
 }

@@ -4,18 +4,7 @@ ghost use Rattle.rules.specs.Literals.{in_range};
 ghost use Rattle.memory.specs.Words.{word_at, size};
 ghost use Rattle.memory.specs.Decode.{assumptions_of, Sound};
 
-use crate::layout::{Layout, put};
-
-/// Sets every word from `from` on to 0.
-fn zero_from(words: &mut [i32], from: usize)
-    requires { from ≤ length words.old }
-    ensures zero { (i : ℕ) → from ≤ i → word_at words.new i ≡ pos 0 }
-    ensures before { (i : ℕ) → i < from → word_at words.new i ≡ word_at words.old i }
-{
-    for i in from..words.len() {
-        put(words, i, 0);
-    }
-}
+use crate::layout::Layout;
 
 /// Empties trail and slots: every word behind the assumptions is 0 then, and the assumptions stay.
 pub(crate) fn empty(words: &mut [i32], layout: Layout)
@@ -25,7 +14,7 @@ pub(crate) fn empty(words: &mut [i32], layout: Layout)
     ensures sound { (count : ℕ) → count ≤ 2 * layout.variables → ((i : ℕ) → i < count → in_range layout.variables (word_at words.old i) ≡ true)
         → Sound layout.variables layout.slots count 0 0 words.new }
 {
-    zero_from(words, 2 * layout.variables);
+    words[2 * layout.variables..].fill(0);
 }
 
 /// Sets every word to 0.

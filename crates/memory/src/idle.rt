@@ -1,5 +1,5 @@
 //! An idle session: it takes assumptions, begins a search, or ends.
-ghost use Rattle.std.specs.Prelude.{◌≡◌, ◌≤◌, [], ◌∷◌, ◌++◌, length, replicate, pos, is_ok, if◌then◌else◌};
+ghost use Rattle.std.specs.Prelude.{◌≡◌, ◌≤◌, [], ◌∷◌, ◌++◌, length, replicate, pos, is_ok, OnErr, if◌then◌else◌};
 ghost use Rattle.theory.specs.Calls.{Call.assume as assuming, Call.clear as clearing, Call.begin as beginning, Call.close as closing, Reply.done, State.idle, State.closed, begun};
 ghost use Rattle.memory.specs.Words.{size};
 ghost use Rattle.memory.specs.Reports.{granted_as};
@@ -7,6 +7,7 @@ ghost use Rattle.memory.specs.Sessions.{standing, idle_state, searched, search_s
 
 use crate::fresh::{empty, wipe};
 use crate::layout::{Extent, Layout};
+use crate::memory::Memory;
 use crate::report::{Refusal, Verdict};
 use crate::states::{Idle, Search};
 use rules::literal::is_in_range;
@@ -74,11 +75,12 @@ impl<'a> Idle<'a> {
         }
     }
 
-    /// A literal joins the assumptions.
+    /// A literal joins the assumptions. A refused call leaves the session as it was.
     pub fn assume(&mut self, literal: i32) -> Result<(), Refusal>
         ensures answer { result ≡ assume_answer self.old.layout.variables (length (standing self.old)) literal }
         ensures assumptions { standing self.new ≡ (if is_ok result then standing self.old ++ (literal ∷ []) else standing self.old) }
         ensures promised { Promised self.old.layout.variables self.old.layout.slots (idle_state self.old) (assuming literal) (granted_as result) (idle_state self.new) }
+        ensures unchanged { OnErr result (self.new ≡ self.old) }
         ensures layout { self.new.layout ≡ self.old.layout }
         ensures size { length self.new.words.now ≡ length self.old.words.now }
     {
@@ -107,8 +109,8 @@ impl<'a> Idle<'a> {
     pub fn begin(self) -> Search<'a>
         ensures search { searched result ≡ begun (standing self.entry) }
         ensures promised { Promised self.entry.layout.variables self.entry.layout.slots (idle_state self.entry) beginning done (search_state result) }
-        ensures layout { result.layout ≡ self.entry.layout }
-        ensures size { length result.words.now ≡ length self.entry.words.now }
+        ensures layout { result.memory.layout ≡ self.entry.layout }
+        ensures size { length result.memory.words.now ≡ length self.entry.words.now }
     {
         let Idle {
             words,
@@ -122,9 +124,11 @@ impl<'a> Idle<'a> {
             slots: 0,
         };
         Search {
-            words,
-            layout,
-            extent,
+            memory: Memory {
+                words,
+                layout,
+                extent,
+            },
             verdict: Verdict::Open,
             failed: None,
             answer: None,

@@ -1,8 +1,10 @@
 //! Where the words of a session stand, and how each is read and written.
-ghost use Rattle.std.specs.Prelude.{◌≡◌, ◌+◌, ◌*◌, ◌^◌, ◌<◌, ◌≤◌, length, pos, neg_ℤ, ◌==◌, unsigned_abs};
-ghost use Rattle.rules.specs.Literals.{var, same};
+ghost use Rattle.std.specs.Prelude.{◌≡◌, ◌+◌, ◌*◌, ◌<◌, ◌≤◌, length, pos};
+ghost use Rattle.rules.specs.Literals.{var};
 ghost use Rattle.memory.specs.Words.{word_at, index_of, trail_at, value_at, clause_at, mark_at, row_at, size, Wrote};
-ghost use Rattle.memory.specs.Decode.{bit, marked_index, reason_count};
+ghost use Rattle.memory.specs.Decode.{standing_of, standing_word, bit, marked_index, reason_count};
+
+use weights::weigher::Standing;
 
 /// How many variables and slots a session has. It says where each word stands.
 #[derive(Clone, Copy)]
@@ -28,48 +30,34 @@ pub(crate) fn index_of(literal: i32) -> usize
     literal.unsigned_abs() as usize - 1
 }
 
-/// Writes one word.
-pub(crate) fn put(words: &mut [i32], at: usize, word: i32)
-    requires { at < length words.old }
-    ensures { Wrote at word words.old words.new }
-{
-    words[at] = word;
-}
-
 /// Writes a copy of one word to another place.
 pub(crate) fn put_copy(words: &mut [i32], from: usize, to: usize)
     requires { (from < length words.old) × (to < length words.old) }
     ensures { Wrote to (word_at words.old from) words.old words.new }
 {
-    let word = words[from];
-    put(words, to, word);
+    words[to] = words[from];
 }
 
-/// The negation of a word.
-fn negate(word: i32) -> i32
-    requires { unsigned_abs word < 2 ^ 31 }
-    ensures { result ≡ neg_ℤ word }
+/// A standing as a word.
+fn word_of(standing: Standing) -> i32
+    ensures { result ≡ standing_word standing }
 {
-    -word
+    match standing {
+        Standing::Assumed => 1,
+        Standing::Decided => 2,
+        Standing::Implied => 3,
+    }
 }
 
-/// Writes the negation of one word to another place.
-pub(crate) fn put_negated(words: &mut [i32], from: usize, to: usize)
-    requires from { from < length words.old }
-    requires to { to < length words.old }
-    requires small { unsigned_abs (word_at words.old from) < 2 ^ 31 }
-    ensures { Wrote to (neg_ℤ (word_at words.old from)) words.old words.new }
+/// The standing that a word tells.
+fn standing_of(word: i32) -> Standing
+    ensures { result ≡ standing_of word }
 {
-    let word = negate(words[from]);
-    put(words, to, word);
-}
-
-/// Whether two words are the same.
-pub(crate) fn same_at(words: &[i32], a: usize, b: usize) -> bool
-    requires { (a < length words.now) × (b < length words.now) }
-    ensures { result ≡ same (word_at words.now a) (word_at words.now b) }
-{
-    words[a] == words[b]
+    match word.unsigned_abs() {
+        3 => Standing::Implied,
+        1 => Standing::Assumed,
+        _ => Standing::Decided,
+    }
 }
 
 // Each of these asks that all the words are there.
@@ -95,7 +83,7 @@ impl Layout {
         requires { (place < self.variables) × (size self.variables self.slots ≤ length words.old) }
         ensures { Wrote (trail_at self.variables place) literal words.old words.new }
     {
-        put(words, 2 * self.variables + place, literal);
+        words[2 * self.variables + place] = literal;
     }
 
     /// The value of a variable: its literal that is true, or 0.
@@ -110,7 +98,7 @@ impl Layout {
         requires { (index < self.variables) × (size self.variables self.slots ≤ length words.old) }
         ensures { Wrote (value_at self.variables index) value words.old words.new }
     {
-        put(words, 3 * self.variables + index, value);
+        words[3 * self.variables + index] = value;
     }
 
     /// Where a literal of the clause in hand stands.
@@ -126,6 +114,7 @@ impl Layout {
         requires { (index < self.variables) × (size self.variables self.slots ≤ length words.now) }
         ensures { result ≡ marked_index self.variables words.now index }
     {
+        // A mark is read by its magnitude, as its definition reads it.
         words[5 * self.variables + index].unsigned_abs() == 1
     }
 
@@ -133,30 +122,22 @@ impl Layout {
         requires { (index < self.variables) × (size self.variables self.slots ≤ length words.old) }
         ensures { Wrote (mark_at self.variables index) (bit mark) words.old words.new }
     {
-        put(words, 5 * self.variables + index, if mark { 1 } else { 0 });
+        words[5 * self.variables + index] = i32::from(mark);
     }
 
-    /// Whether a variable's row says that its literal is implied.
-    pub(crate) fn implied(self, words: &[i32], index: usize) -> bool
+    /// How a variable's literal stands, by its row.
+    pub(crate) fn standing(self, words: &[i32], index: usize) -> Standing
         requires { (index < self.variables) × (size self.variables self.slots ≤ length words.now) }
-        ensures { result ≡ (unsigned_abs (word_at words.now (row_at self.variables index 0)) == 3) }
+        ensures { result ≡ standing_of (word_at words.now (row_at self.variables index 0)) }
     {
-        words[self.row(index, 0)].unsigned_abs() == 3
+        standing_of(words[self.row(index, 0)])
     }
 
-    /// Whether a variable's row says that its literal is assumed.
-    pub(crate) fn assumed(self, words: &[i32], index: usize) -> bool
-        requires { (index < self.variables) × (size self.variables self.slots ≤ length words.now) }
-        ensures { result ≡ (unsigned_abs (word_at words.now (row_at self.variables index 0)) == 1) }
-    {
-        words[self.row(index, 0)].unsigned_abs() == 1
-    }
-
-    pub(crate) fn set_standing(self, words: &mut [i32], index: usize, standing: i32)
+    pub(crate) fn set_standing(self, words: &mut [i32], index: usize, standing: Standing)
         requires { (index < self.variables) × (size self.variables self.slots ≤ length words.old) }
-        ensures { Wrote (row_at self.variables index 0) standing words.old words.new }
+        ensures { Wrote (row_at self.variables index 0) (standing_word standing) words.old words.new }
     {
-        put(words, self.row(index, 0), standing);
+        words[self.row(index, 0)] = word_of(standing);
     }
 
     /// How many other literals a variable's reason has.
@@ -189,6 +170,6 @@ impl Layout {
         requires { (index < self.variables + self.slots) × ((k ≤ self.variables) × ((count ≤ self.variables) × (size self.variables self.slots ≤ length words.old))) }
         ensures { Wrote (row_at self.variables index k) (pos count) words.old words.new }
     {
-        put(words, self.row(index, k), count as i32);
+        words[self.row(index, k)] = count as i32;
     }
 }

@@ -1,7 +1,7 @@
 //! The calls of a session, the words that it lives in, and what a search does on them: look, choice, weighing, analysis, undoing,
 //! placing and learning.
 //!
-//! Public are the states of a session with their calls, and what these answer. The other functions ask that the words stand for a
+//! Public are the states of a session with their calls, and what these answer. A search works on a `Memory`, whose words stand for a
 //! position; a call asks nothing.
 #![tactic(auto)]
 
@@ -13,10 +13,12 @@ mod deciding;
 mod drive;
 mod finish;
 mod fresh;
+mod guide;
 mod idle;
 mod layout;
 mod look;
 mod marks;
+mod memory;
 mod naming;
 mod plan;
 mod reasons;

@@ -1,20 +1,16 @@
 //! A look: which clause is falsified or unit, of the source or of the learned ones.
-ghost use Rattle.std.specs.Prelude.{◌≡◌, ℕ, ◌*◌, ◌≤◌, true};
-ghost use Rattle.rules.specs.Clauses.{status};
-ghost use Rattle.rules.specs.Sources.{Meaning, Lawful, Answer.silent};
+ghost use Rattle.std.specs.Prelude.{◌≡◌, ◌*◌, ◌≤◌, true};
+ghost use Rattle.rules.specs.Sources.{Answer.silent};
 ghost use Rattle.rules.proofs.Lists.{asserts};
 ghost use Rattle.theory.specs.Trail.{on, valuation};
 ghost use Rattle.theory.proofs.Looking.{look_after};
-ghost use Rattle.memory.specs.Words.{Outside};
-ghost use Rattle.memory.specs.Decode.{trail_of, clause_of, slots_of, Coherent, Stored};
 ghost use Rattle.memory.specs.InHand.{InRange};
 ghost use Rattle.memory.specs.Finding.{taken_clause, TakenWhole, StandsSo, found_clause, FoundSo};
+ghost use Rattle.memory.specs.Memories.{trail_in, slots_in, clause_in, Framed};
 
-use crate::ask::ask;
 use crate::clause::first_unassigned;
-use crate::layout::Layout;
-use crate::slots::{first_slot, recall};
-use rules::source::{Source, Told};
+use crate::memory::Memory;
+use rules::source::Source;
 
 /// How a found clause stands: all its literals are false, or all but the one of this number, from 0, whose variable is unassigned.
 #[derive(Clone, Copy, PartialEq, Eq, Debug)]
@@ -30,86 +26,56 @@ pub struct Found {
     pub assertion: Assertion,
 }
 
-/// How the clause of `count` literals in hand stands, which is falsified or unit.
-fn assertion_of(words: &[i32], layout: Layout, len: usize, count: usize) -> Assertion
-    requires coherent { Coherent layout.variables layout.slots len words.now }
-    requires few { count ≤ layout.variables }
-    requires ranged { InRange layout.variables words.now count }
-    requires asserting { asserts (on (trail_of layout.variables len words.now)) (clause_of layout.variables count words.now) ≡ true }
-    ensures { StandsSo layout.variables (trail_of layout.variables len words.now) words.now count result }
-{
-    let n = layout.variables;
-    let open = first_unassigned(&words[4 * n..4 * n + count], &words[3 * n..4 * n]);
-    if open < count {
-        Assertion::Unit(open)
-    } else {
-        Assertion::Falsified
+impl Memory<'_> {
+    /// Looks for a falsified or unit clause: the source's, or, where that is silent, the first falsified slot's, or else the
+    /// first unit slot's. The found clause is then in hand.
+    pub(crate) fn look<S: Source>(&mut self, source: &S) -> Option<Found>
+        requires { (S.meaning source.now).count ≡ self.old.layout.variables }
+        ensures found { found_clause self.old.layout.variables self.new.words.now result
+            ≡ look_after ((S.meaning source.now).answer (valuation self.old.layout.variables (trail_in self.old))) (trail_in self.old) (slots_in self.old) }
+        ensures stands { FoundSo self.old.layout.variables (trail_in self.old) self.new.words.now result }
+        ensures frame { Framed (4 * self.old.layout.variables) self.old.layout.variables self.old self.new }
+    {
+        let count = self.find(source)?;
+        let assertion = self.assertion_of(count);
+        Some(Found { count, assertion })
     }
-}
 
-/// Takes the first falsified slot's clause in hand, or else the first unit one's, and says how many literals it has.
-fn recall_first(words: &mut [i32], layout: Layout, len: usize, filled: usize) -> Option<usize>
-    requires coherent { Coherent layout.variables layout.slots len words.old }
-    requires room { filled ≤ layout.slots }
-    requires stored { Stored layout.variables filled words.old }
-    ensures clause { taken_clause layout.variables words.new result ≡ look_after silent (trail_of layout.variables len words.old) (slots_of layout.variables filled words.old) }
-    ensures whole { TakenWhole layout.variables words.new result }
-    ensures outside { Outside (4 * layout.variables) layout.variables words.old words.new }
-{
-    match first_slot(words, layout, len, filled) {
-        Some(slot) => Some(recall(words, layout, slot)),
-        None => None,
+    /// Takes the clause of a look in hand: the source's, or, where that is silent, a slot's. Says how many literals it has.
+    fn find<S: Source>(&mut self, source: &S) -> Option<usize>
+        requires { (S.meaning source.now).count ≡ self.old.layout.variables }
+        ensures clause { taken_clause self.old.layout.variables self.new.words.now result
+            ≡ look_after ((S.meaning source.now).answer (valuation self.old.layout.variables (trail_in self.old))) (trail_in self.old) (slots_in self.old) }
+        ensures whole { TakenWhole self.old.layout.variables self.new.words.now result }
+        ensures frame { Framed (4 * self.old.layout.variables) self.old.layout.variables self.old self.new }
+    {
+        match self.ask(source) {
+            None => self.recall_first(),
+            told => told,
+        }
     }
-}
 
-/// Takes the clause of a look in hand: the source's, or, where that is silent, a slot's. Says how many literals it has.
-fn find<S: Source>(
-    source: &S,
-    words: &mut [i32],
-    layout: Layout,
-    len: usize,
-    filled: usize,
-) -> Option<usize>
-    requires count { (S.meaning source.now).count ≡ layout.variables }
-    requires lawful { Lawful (S.meaning source.now) }
-    requires coherent { Coherent layout.variables layout.slots len words.old }
-    requires room { filled ≤ layout.slots }
-    requires stored { Stored layout.variables filled words.old }
-    ensures clause { taken_clause layout.variables words.new result ≡ look_after ((S.meaning source.now).answer (valuation layout.variables (trail_of layout.variables len words.old)))
-        (trail_of layout.variables len words.old) (slots_of layout.variables filled words.old) }
-    ensures whole { TakenWhole layout.variables words.new result }
-    ensures outside { Outside (4 * layout.variables) layout.variables words.old words.new }
-{
-    match ask(source, words, layout, len) {
-        Told::Clause(count) => Some(count),
-        Told::Silent => recall_first(words, layout, len, filled),
+    /// Takes the first falsified slot's clause in hand, or else the first unit one's, and says how many literals it has.
+    fn recall_first(&mut self) -> Option<usize>
+        ensures clause { taken_clause self.old.layout.variables self.new.words.now result ≡ look_after silent (trail_in self.old) (slots_in self.old) }
+        ensures whole { TakenWhole self.old.layout.variables self.new.words.now result }
+        ensures frame { Framed (4 * self.old.layout.variables) self.old.layout.variables self.old self.new }
+    {
+        let slot = self.first_slot()?;
+        Some(self.recall(slot))
     }
-}
 
-/// Looks for a falsified or unit clause: the source's, or, where that is silent, the first falsified slot's, or else the
-/// first unit slot's. The found clause is then in hand.
-pub(crate) fn look<S: Source>(
-    source: &S,
-    words: &mut [i32],
-    layout: Layout,
-    len: usize,
-    filled: usize,
-) -> Option<Found>
-    requires count { (S.meaning source.now).count ≡ layout.variables }
-    requires lawful { Lawful (S.meaning source.now) }
-    requires coherent { Coherent layout.variables layout.slots len words.old }
-    requires room { filled ≤ layout.slots }
-    requires stored { Stored layout.variables filled words.old }
-    ensures found { found_clause layout.variables words.new result ≡ look_after ((S.meaning source.now).answer (valuation layout.variables (trail_of layout.variables len words.old)))
-        (trail_of layout.variables len words.old) (slots_of layout.variables filled words.old) }
-    ensures stands { FoundSo layout.variables (trail_of layout.variables len words.old) words.new result }
-    ensures outside { Outside (4 * layout.variables) layout.variables words.old words.new }
-{
-    match find(source, words, layout, len, filled) {
-        Some(count) => Some(Found {
-            count,
-            assertion: assertion_of(words, layout, len, count),
-        }),
-        None => None,
+    /// How the clause of `count` literals in hand stands, which is falsified or unit.
+    fn assertion_of(&self, count: usize) -> Assertion
+        requires few { count ≤ self.now.layout.variables }
+        requires ranged { InRange self.now.layout.variables self.now.words.now count }
+        requires asserting { asserts (on (trail_in self.now)) (clause_in self.now count) ≡ true }
+        ensures { StandsSo self.now.layout.variables (trail_in self.now) self.now.words.now count result }
+    {
+        let n = self.layout.variables;
+        match first_unassigned(&self.words[4 * n..4 * n + count], &self.words[3 * n..4 * n]) {
+            Some(open) => Assertion::Unit(open),
+            None => Assertion::Falsified,
+        }
     }
 }

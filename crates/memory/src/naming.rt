@@ -1,19 +1,81 @@
 //! Naming: which assumed literals a conflict rests on.
-ghost use Rattle.std.specs.Prelude.{◌≡◌, ℕ, ◌+◌, ◌*◌, ◌<◌, ◌≤◌, true, ◌&&◌, ◌||◌, ◌⊎◌, length, ℤ, filter, ◌==◌, unsigned_abs};
+ghost use Rattle.std.specs.Prelude.{◌≡◌, ℕ, ◌+◌, ◌*◌, ◌<◌, ◌≤◌, true, ◌&&◌, ◌||◌, ◌⊎◌, length, ℤ, filter};
 ghost use Rattle.rules.specs.Literals.{in_range, has};
-ghost use Rattle.rules.specs.Clauses.{Status.falsified, status};
-ghost use Rattle.theory.specs.Trail.{on, assumed_literals};
+ghost use Rattle.theory.specs.Trail.{assumed_literals};
 ghost use Rattle.theory.specs.Chunks.{in_chunk, touches};
 ghost use Rattle.memory.specs.Words.{word_at, words_from, row_at, size, Outside};
-ghost use Rattle.memory.specs.Decode.{entry_at, trail_of, clause_of, marked_index, marked, Coherent};
+ghost use Rattle.memory.specs.Decode.{stands, entry_at, marked_index, marked};
 ghost use Rattle.memory.specs.Analysis.{names_index};
 ghost use Rattle.memory.specs.Naming.{with_reason, marks_member};
+ghost use Rattle.memory.specs.Memories.{trail_in, clause_in, FalsifiedInHand, Framed};
 
 use crate::layout::{Layout, index_of};
 use crate::marks::clear_marks;
-use crate::trail::{index_at, variable};
-use crate::values::value;
+use crate::memory::Memory;
+use crate::trail::index_at;
 use rules::literal::Value;
+use weights::weigher::Standing;
+
+impl Memory<'_> {
+    /// Marks, of the assumed literals on the trail, those whose chunks the falsified clause of `k` words in hand touches.
+    /// Other marks tell nothing then.
+    pub(crate) fn mark_roots(&mut self, k: usize)
+        requires { FalsifiedInHand self.old k }
+        ensures named { filter (marked self.old.layout.variables self.new.words.now) (assumed_literals (trail_in self.old))
+            ≡ filter (λ r. touches (trail_in self.old) r (clause_in self.old k)) (assumed_literals (trail_in self.old)) }
+        ensures frame { Framed (5 * self.old.layout.variables) self.old.layout.variables self.old self.new }
+    {
+        let words = &mut *self.words;
+        clear_marks(words, self.layout);
+        mark_variables(words, self.layout, self.layout.clause(0), k);
+        self.mark_reasons();
+    }
+
+    /// Marks back along the trail the reasons of marked literals. An assumed literal is then marked just where a literal of its chunk was.
+    fn mark_reasons(&mut self)
+        ensures marked { (r : ℤ) → has (assumed_literals (trail_in self.old)) r ≡ true → marked self.old.layout.variables self.new.words.now r
+            ≡ marks_member (marked_index self.old.layout.variables self.old.words.now) (in_chunk r (trail_in self.old)) (trail_in self.old) }
+        ensures frame { Framed (5 * self.old.layout.variables) self.old.layout.variables self.old self.new }
+    {
+        for place in (0..self.extent.trail).rev() {
+            self.mark_reason(place);
+        }
+    }
+
+    /// Marks the variables of the reason of the literal at a place, if that is marked and implied.
+    fn mark_reason(&mut self, place: usize)
+        requires { place < self.old.extent.trail }
+        ensures marked { (x : ℕ) → marked_index self.old.layout.variables self.new.words.now x
+            ≡ with_reason (marked_index self.old.layout.variables self.old.words.now) (entry_at self.old.layout.variables self.old.words.now place) x }
+        ensures frame { Framed (5 * self.old.layout.variables) self.old.layout.variables self.old self.new }
+    {
+        let x = self.variable(place);
+        if self.is_marked_as(x, Standing::Implied) {
+            let count = self.reason_count(x);
+            let reason = self.layout.reason(x);
+            mark_variables(self.words, self.layout, reason, count);
+        }
+    }
+
+    /// Whether a literal in range is assumed on the trail and marked.
+    pub(crate) fn is_marked_root(&self, literal: i32) -> bool
+        requires { in_range self.now.layout.variables literal ≡ true }
+        ensures { result ≡ has (filter (marked self.now.layout.variables self.now.words.now) (assumed_literals (trail_in self.now))) literal }
+    {
+        match self.value(literal) {
+            Value::True => self.is_marked_as(index_of(literal), Standing::Assumed),
+            _ => false,
+        }
+    }
+
+    /// Whether a variable is marked and its literal stands so.
+    fn is_marked_as(&self, x: usize, standing: Standing) -> bool
+        requires { x < self.now.layout.variables }
+        ensures { result ≡ (marked_index self.now.layout.variables self.now.words.now x && stands (word_at self.now.words.now (row_at self.now.layout.variables x 0)) standing) }
+    {
+        self.layout.marked(self.words, x) && self.layout.standing(self.words, x) == standing
+    }
+}
 
 /// Marks the variables of `k` words from `base` on, which are no marks themselves.
 fn mark_variables(words: &mut [i32], layout: Layout, base: usize, k: usize)
@@ -25,80 +87,9 @@ fn mark_variables(words: &mut [i32], layout: Layout, base: usize, k: usize)
         ≡ (marked_index layout.variables words.old x || names_index (words_from words.old base k) x) }
     ensures outside { Outside (5 * layout.variables) layout.variables words.old words.new }
 {
+    // The literals read and the marks written are of one slice, so the literals go by their numbers.
     for i in 0..k {
         let x = index_at(words, layout, base + i);
         layout.set_mark(words, x, true);
-    }
-}
-
-/// Whether a variable is marked and its row says that its literal is implied.
-fn is_marked_implied(words: &[i32], layout: Layout, x: usize) -> bool
-    requires { (size layout.variables layout.slots ≤ length words.now) × (x < layout.variables) }
-    ensures { result ≡ (marked_index layout.variables words.now x && unsigned_abs (word_at words.now (row_at layout.variables x 0)) == 3) }
-{
-    layout.marked(words, x) && layout.implied(words, x)
-}
-
-/// Marks the variables of the reason of the literal at a place, if that is marked and implied.
-fn mark_reason(words: &mut [i32], layout: Layout, len: usize, place: usize)
-    requires coherent { Coherent layout.variables layout.slots len words.old }
-    requires within { place < len }
-    ensures marked { (x : ℕ) → marked_index layout.variables words.new x
-        ≡ with_reason (marked_index layout.variables words.old) (entry_at layout.variables words.old place) x }
-    ensures outside { Outside (5 * layout.variables) layout.variables words.old words.new }
-{
-    let x = variable(words, layout, len, place);
-    if is_marked_implied(words, layout, x) {
-        let count = layout.reason_count(words, x);
-        mark_variables(words, layout, layout.reason(x), count);
-    }
-}
-
-/// Marks back along the trail the reasons of marked literals. An assumed literal is then marked just where a literal of its chunk was.
-fn mark_reasons(words: &mut [i32], layout: Layout, len: usize)
-    requires { Coherent layout.variables layout.slots len words.old }
-    ensures marked { (r : ℤ) → has (assumed_literals (trail_of layout.variables len words.old)) r ≡ true → marked layout.variables words.new r
-        ≡ marks_member (marked_index layout.variables words.old) (in_chunk r (trail_of layout.variables len words.old)) (trail_of layout.variables len words.old) }
-    ensures outside { Outside (5 * layout.variables) layout.variables words.old words.new }
-{
-    let mut place = len;
-    'places: while place > 0 {
-        place -= 1;
-        mark_reason(words, layout, len, place);
-    }
-}
-
-/// Marks, of the assumed literals on the trail, those whose chunks the falsified clause of `k` words in hand touches.
-/// Other marks tell nothing then.
-pub(crate) fn mark_roots(words: &mut [i32], layout: Layout, len: usize, k: usize)
-    requires coherent { Coherent layout.variables layout.slots len words.old }
-    requires few { k ≤ layout.variables }
-    requires falsified { status (on (trail_of layout.variables len words.old)) (clause_of layout.variables k words.old) ≡ falsified }
-    ensures named { filter (marked layout.variables words.new) (assumed_literals (trail_of layout.variables len words.old))
-        ≡ filter (λ r. touches (trail_of layout.variables len words.old) r (clause_of layout.variables k words.old)) (assumed_literals (trail_of layout.variables len words.old)) }
-    ensures outside { Outside (5 * layout.variables) layout.variables words.old words.new }
-{
-    clear_marks(words, layout);
-    mark_variables(words, layout, layout.clause(0), k);
-    mark_reasons(words, layout, len);
-}
-
-/// Whether a variable is marked and its row says that its literal is assumed.
-fn is_marked_assumed(words: &[i32], layout: Layout, x: usize) -> bool
-    requires { (size layout.variables layout.slots ≤ length words.now) × (x < layout.variables) }
-    ensures { result ≡ (unsigned_abs (word_at words.now (row_at layout.variables x 0)) == 1 && marked_index layout.variables words.now x) }
-{
-    layout.assumed(words, x) && layout.marked(words, x)
-}
-
-/// Whether a literal in range is assumed on the trail and marked.
-pub(crate) fn is_marked_root(words: &[i32], layout: Layout, literal: i32) -> bool
-    requires big { size layout.variables layout.slots ≤ length words.now }
-    requires ranged { in_range layout.variables literal ≡ true }
-    ensures { (len : ℕ) → Coherent layout.variables layout.slots len words.now → result ≡ has (filter (marked layout.variables words.now) (assumed_literals (trail_of layout.variables len words.now))) literal }
-{
-    match value(words, layout, literal) {
-        Value::True => is_marked_assumed(words, layout, index_of(literal)),
-        _ => false,
     }
 }

@@ -1,15 +1,17 @@
 //! Implied literals: the unassigned literal of a clause is placed with that clause as its reason.
-ghost use Rattle.std.specs.Prelude.{◌≡◌, ℕ, ◌+◌, ◌-◌, ◌*◌, ◌<◌, ◌≤◌, true, false, length, ℤ, All};
-ghost use Rattle.rules.specs.Literals.{in_range};
-ghost use Rattle.rules.specs.Clauses.{Status.unit, status, is_unit};
-ghost use Rattle.theory.specs.Trail.{Entry.implied, on, Placeable};
+ghost use Rattle.std.specs.Prelude.{◌≡◌, ◌+◌, ◌-◌, ◌<◌, ◌≤◌, length};
+ghost use Rattle.theory.specs.Trail.{Entry.implied, Placeable};
 ghost use Rattle.theory.specs.Conflict.{others_of};
-ghost use Rattle.memory.specs.Words.{word_at, words_from, index_of, clause_at, size, Outside, Touched};
-ghost use Rattle.memory.specs.Decode.{trail_of, clause_of, unvalued, Coherent, Places};
+ghost use Rattle.theory.specs.Search.{placed};
+ghost use Rattle.memory.specs.Words.{word_at, words_from, index_of, clause_at, Outside, Touched};
+ghost use Rattle.memory.specs.Decode.{trail_of, clause_of, Coherent, Places};
+ghost use Rattle.memory.specs.Memories.{trail_in, position_in, clause_in, Keeps};
+ghost use Rattle.memory.specs.Plans.{UnitInHand};
 
-use crate::layout::{Layout, put_copy, same_at};
-use crate::trail::index_at;
-use crate::values::is_open;
+use crate::layout::{Layout, index_of};
+use crate::memory::Memory;
+use crate::trail::lay;
+use weights::weigher::Standing;
 
 /// Copies `k` words from `from` on to `to` on, but for those that are the same as the one of them at `at`.
 /// Says how many were copied.
@@ -21,10 +23,11 @@ fn copy_others(words: &mut [i32], from: usize, to: usize, k: usize, at: usize) -
     ensures fewer { result < k }
     ensures outside { Outside to (k - 1) words.old words.new }
 {
+    // The words read and the words written are of one slice, so they are told apart by their numbers.
     let mut count: usize = 0;
     for i in 0..k {
-        if !same_at(words, from + i, at) {
-            put_copy(words, from + i, to + count);
+        if words[from + i] != words[at] {
+            words[to + count] = words[from + i];
             count += 1;
         }
     }
@@ -44,45 +47,23 @@ pub(crate) fn imply(words: &mut [i32], layout: Layout, len: usize, k: usize, at:
     ensures coherent { Coherent layout.variables layout.slots (len + 1) words.new }
     ensures rest { Touched layout.variables len (index_of (word_at words.old (clause_at layout.variables at))) words.old words.new }
 {
-    let literal = layout.clause(at);
-    let x = index_at(words, layout, literal);
-    let count = copy_others(words, layout.clause(0), layout.reason(x), k, literal);
+    let place = layout.clause(at);
+    let literal = words[place];
+    let x = index_of(literal);
+    let count = copy_others(words, layout.clause(0), layout.reason(x), k, place);
     layout.set_count(words, x, 1, count);
-    put_copy(words, literal, 2 * layout.variables + len);
-    put_copy(words, literal, 3 * layout.variables + x);
-    layout.set_standing(words, x, 3);
+    lay(words, layout, len, literal, Standing::Implied);
 }
 
-/// The number, from 0, of the first of the `k` literals in hand whose variable has no value; `k` where each has one.
-fn first_open(words: &[i32], layout: Layout, k: usize) -> usize
-    requires big { size layout.variables layout.slots ≤ length words.now }
-    requires few { k ≤ layout.variables }
-    requires ranged { (i : ℕ) → i < k → in_range layout.variables (word_at words.now (clause_at layout.variables 0 + i)) ≡ true }
-    ensures few { result ≤ k }
-    ensures before { (i : ℕ) → i < result → unvalued layout.variables words.now (word_at words.now (clause_at layout.variables 0 + i)) ≡ false }
-    ensures found { result < k → unvalued layout.variables words.now (word_at words.now (clause_at layout.variables 0 + result)) ≡ true }
-{
-    let base = 4 * layout.variables;
-    for i in 0..k {
-        let x = index_at(words, layout, base + i);
-        if is_open(words, layout, x) {
-            return i;
-        }
+impl Memory<'_> {
+    /// Places the unassigned literal of the unit clause of `count` words in hand, which is of the number `at`, as implied by that clause.
+    pub(crate) fn imply(&mut self, count: usize, at: usize)
+        requires { UnitInHand self.old.layout.variables (trail_in self.old) self.old.words.now count at }
+        ensures placed { let literal = word_at self.old.words.now (clause_at self.old.layout.variables at) in
+            position_in self.new ≡ placed (position_in self.old) (implied literal (others_of literal (clause_in self.old count))) }
+        ensures keeps { Keeps self.old self.new }
+    {
+        imply(self.words, self.layout, self.extent.trail, count, at);
+        self.extent.trail += 1;
     }
-    k
-}
-
-/// Places the unassigned literal of the unit clause of `k` words in hand as implied by that clause.
-pub(crate) fn imply_unit(words: &mut [i32], layout: Layout, len: usize, k: usize)
-    requires coherent { Coherent layout.variables layout.slots len words.old }
-    requires few { k ≤ layout.variables }
-    requires ranged { All (λ l. in_range layout.variables l ≡ true) (clause_of layout.variables k words.old) }
-    requires asserting { is_unit (status (on (trail_of layout.variables len words.old)) (clause_of layout.variables k words.old)) ≡ true }
-    ensures places { (l : ℤ) → status (on (trail_of layout.variables len words.old)) (clause_of layout.variables k words.old) ≡ unit l
-        → Places layout.variables layout.slots len (implied l (others_of l (clause_of layout.variables k words.old))) words.old words.new }
-    ensures coherent { Coherent layout.variables layout.slots (len + 1) words.new }
-    ensures outside { Outside (2 * layout.variables) (4 * layout.variables + layout.variables * (layout.variables + 1)) words.old words.new }
-{
-    let at = first_open(words, layout, k);
-    imply(words, layout, len, k, at);
 }

@@ -41,7 +41,8 @@ impl Verdict {
     }
 }
 
-/// A refusal, with its number. A refused call leaves the session and every buffer as they were.
+/// A refusal, with its number. A refused call leaves the session and every buffer as they were, but that a search keeps it as its
+/// latest answer.
 #[derive(Clone, Copy, PartialEq, Eq, Debug)]
 pub enum Refusal {
     /// More than 1,000 variables or slots, or too few words.
@@ -60,12 +61,12 @@ pub enum Refusal {
     NotRefuted = 7,
 }
 
-impl Refusal {
-    /// The number by which the refusal is known.
-    pub fn number(self) -> u8
-        ensures { result ≡ refusal_number self }
-    {
-        self as u8
+impl From<Refusal> for u8 {
+    ghost from_gives = { λ refusal number. number ≡ refusal_number refusal };
+
+    /// The number by which a refusal is known.
+    fn from(refusal: Refusal) -> u8 {
+        refusal as u8
     }
 }
 
@@ -112,30 +113,26 @@ impl Report {
         ensures report { report_of result ≡ added (report_of self) (no_steps (verdict_of verdict)) }
         ensures verdict { result.verdict ≡ verdict }
     {
-        let mut report = self;
-        report.verdict = verdict;
-        report
+        Report { verdict, ..self }
     }
 
-    /// One step more, of this kind, that undid so many literals.
-    pub(crate) fn counting(self, kind: Kind, undone: usize) -> Report
-        requires sized { Sized self }
-        requires room { self.steps < 4294967295 }
+    /// Counts one step more, of this kind, that undid so many literals.
+    pub(crate) fn count(&mut self, kind: Kind, undone: usize)
+        requires sized { Sized self.old }
+        requires room { self.old.steps < 4294967295 }
         requires few { undone ≤ 1000 }
-        ensures report { report_of result ≡ added (report_of self) (one_step (kind_of kind) undone) }
-        ensures sized { Sized result }
-        ensures steps { result.steps ≡ self.steps + 1 }
+        ensures report { report_of self.new ≡ added (report_of self.old) (one_step (kind_of kind) undone) }
+        ensures sized { Sized self.new }
+        ensures steps { self.new.steps ≡ self.old.steps + 1 }
     {
-        let mut report = self;
-        report.verdict = Verdict::Paused;
-        report.steps += 1;
-        report.undone += undone as u64;
+        self.verdict = Verdict::Paused;
+        self.steps += 1;
+        self.undone += undone as u64;
         match kind {
-            Kind::Assumed => report.assumed += 1,
-            Kind::Decided => report.decided += 1,
-            Kind::Implied => report.implied += 1,
-            Kind::Conflict => report.conflicts += 1,
+            Kind::Assumed => self.assumed += 1,
+            Kind::Decided => self.decided += 1,
+            Kind::Implied => self.implied += 1,
+            Kind::Conflict => self.conflicts += 1,
         }
-        report
     }
 }

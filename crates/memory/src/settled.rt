@@ -5,17 +5,16 @@ ghost use Rattle.memory.specs.Reports.{verdict_of, said_as};
 ghost use Rattle.memory.specs.Searches.{failed_is};
 ghost use Rattle.memory.specs.Sessions.{standing, idle_state, found, settled_state, Promised, value_answer, named_answer};
 
-use crate::naming::is_marked_root;
+use crate::memory::Memory;
 use crate::report::{Refusal, Verdict};
 use crate::states::{Idle, Settled};
-use crate::values::is_true;
 use rules::literal::is_in_range;
 
 impl<'a> Settled<'a> {
     /// The verdict of the last granted run, or Open without one.
     pub fn verdict(&self) -> Verdict
         ensures answer { result ≡ self.now.verdict }
-        ensures promised { Promised self.now.layout.variables self.now.layout.slots (settled_state self.now) asking (finds (verdict_of result)) (settled_state self.now) }
+        ensures promised { Promised self.now.memory.layout.variables self.now.memory.layout.slots (settled_state self.now) asking (finds (verdict_of result)) (settled_state self.now) }
     {
         self.verdict
     }
@@ -23,47 +22,48 @@ impl<'a> Settled<'a> {
     /// Whether a variable is true in the model.
     pub fn value(&self, variable: u32) -> Result<bool, Refusal>
         ensures answer { result ≡ value_answer self.now variable }
-        ensures promised { Promised self.now.layout.variables self.now.layout.slots (settled_state self.now) (valuing variable) (said_as result) (settled_state self.now) }
+        ensures promised { Promised self.now.memory.layout.variables self.now.memory.layout.slots (settled_state self.now) (valuing variable) (said_as result) (settled_state self.now) }
     {
-        match self.verdict {
-            Verdict::Model => {}
-            _ => return Err(Refusal::NoModel),
-        }
-        if variable == 0 || variable as usize > self.layout.variables {
+        let Verdict::Model = self.verdict else {
+            return Err(Refusal::NoModel);
+        };
+        if variable == 0 || variable as usize > self.memory.layout.variables {
             return Err(Refusal::NoVariable);
         }
-        Ok(is_true(self.words, self.layout, variable as usize - 1))
+        Ok(self.memory.is_true(variable as usize - 1))
     }
 
     /// Whether a literal is among the named assumptions.
     pub fn named(&self, literal: i32) -> Result<bool, Refusal>
         ensures answer { result ≡ named_answer self.now literal }
-        ensures promised { Promised self.now.layout.variables self.now.layout.slots (settled_state self.now) (naming literal) (said_as result) (settled_state self.now) }
+        ensures promised { Promised self.now.memory.layout.variables self.now.memory.layout.slots (settled_state self.now) (naming literal) (said_as result) (settled_state self.now) }
     {
-        match self.verdict {
-            Verdict::Refuted => {}
-            _ => return Err(Refusal::NotRefuted),
-        }
-        if !is_in_range(literal, self.layout.variables as u32) {
+        let Verdict::Refuted = self.verdict else {
+            return Err(Refusal::NotRefuted);
+        };
+        if !is_in_range(literal, self.memory.layout.variables as u32) {
             return Err(Refusal::NoVariable);
         }
-        Ok(self.is_failed(literal) || is_marked_root(self.words, self.layout, literal))
+        Ok(self.is_failed(literal) || self.memory.is_marked_root(literal))
     }
 
     /// Opens the session again, with its assumptions.
     pub fn reopen(self) -> Idle<'a>
         ensures assumptions { standing result ≡ (found self.entry).position.assumptions }
-        ensures promised { Promised self.entry.layout.variables self.entry.layout.slots (settled_state self.entry) reopening done (idle_state result) }
-        ensures layout { result.layout ≡ self.entry.layout }
-        ensures size { length result.words.now ≡ length self.entry.words.now }
+        ensures promised { Promised self.entry.memory.layout.variables self.entry.memory.layout.slots (settled_state self.entry) reopening done (idle_state result) }
+        ensures layout { result.layout ≡ self.entry.memory.layout }
+        ensures size { length result.words.now ≡ length self.entry.memory.words.now }
     {
         let Settled {
-            words,
-            layout,
-            extent,
+            memory,
             verdict: _,
             failed: _,
         } = self;
+        let Memory {
+            words,
+            layout,
+            extent,
+        } = memory;
         Idle {
             words,
             layout,
@@ -73,10 +73,10 @@ impl<'a> Settled<'a> {
 
     /// Whether the literal is the assumption that was found false.
     fn is_failed(&self, literal: i32) -> bool
-        ensures { result ≡ failed_is self.now.words.now self.now.failed literal }
+        ensures { result ≡ failed_is self.now.memory.words.now self.now.failed literal }
     {
         match self.failed {
-            Some(number) => literal == self.words[number],
+            Some(number) => literal == self.memory.words[number],
             None => false,
         }
     }

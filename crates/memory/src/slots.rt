@@ -9,23 +9,13 @@ ghost use Rattle.theory.specs.Conflict.{written};
 ghost use Rattle.theory.proofs.Looking.{look_after};
 ghost use Rattle.memory.specs.Words.{word_at, words_from, row_at, size, Outside};
 ghost use Rattle.memory.specs.Decode.{trail_of, clause_of, slot_count, slot_of, slots_of, Coherent, Stored};
+ghost use Rattle.memory.specs.Memories.{trail_in, slots_in, Framed};
 ghost use Rattle.memory.specs.Learned.{learned_at, WithinCount};
 
 use crate::clause::clause_status;
-use crate::layout::{Layout, put_copy};
+use crate::layout::Layout;
+use crate::memory::Memory;
 use rules::status::ClauseStatus;
-
-/// Copies `k` words from `from` on to `to` on, which lie apart.
-fn copy(words: &mut [i32], from: usize, to: usize, k: usize)
-    requires apart { (from + k ≤ to) ⊎ (to + k ≤ from) }
-    requires room { (from + k ≤ length words.old) × (to + k ≤ length words.old) }
-    ensures copied { words_from words.new to k ≡ words_from words.old from k }
-    ensures outside { Outside to k words.old words.new }
-{
-    for i in 0..k {
-        put_copy(words, from + i, to + i);
-    }
-}
 
 /// Writes the clause of `k` words in hand to the next empty slot, if any, and nothing else. Says how many slots are filled then.
 pub(crate) fn learn(words: &mut [i32], layout: Layout, filled: usize, k: usize) -> usize
@@ -43,68 +33,60 @@ pub(crate) fn learn(words: &mut [i32], layout: Layout, filled: usize, k: usize) 
     if filled == layout.slots {
         return filled;
     }
-    copy(words, layout.clause(0), layout.slot(filled), k);
+    let clause = layout.clause(0);
+    words.copy_within(clause..clause + k, layout.slot(filled));
     layout.set_count(words, layout.variables + filled, 0, k);
     filled + 1
 }
 
-/// How many literals the clause of a slot has.
-pub(crate) fn slot_count(words: &[i32], layout: Layout, slot: usize) -> usize
-    requires { (size layout.variables layout.slots ≤ length words.now) × (slot < layout.slots) }
-    ensures { result ≡ slot_count layout.variables words.now slot }
-{
-    words[layout.row(layout.variables + slot, 0)].unsigned_abs() as usize
-}
-
-/// Takes the clause of a slot in hand, and says how many literals it has.
-pub(crate) fn recall(words: &mut [i32], layout: Layout, slot: usize) -> usize
-    requires big { size layout.variables layout.slots ≤ length words.old }
-    requires within { slot < layout.slots }
-    requires short { slot_count layout.variables words.old slot ≤ layout.variables }
-    ensures clause { clause_of layout.variables result words.new ≡ slot_of layout.variables words.old slot }
-    ensures few { result ≤ layout.variables }
-    ensures outside { Outside (4 * layout.variables) layout.variables words.old words.new }
-{
-    let k = slot_count(words, layout, slot);
-    copy(words, layout.slot(slot), layout.clause(0), k);
-    k
-}
-
-/// The status of the clause in a slot.
-fn slot_status(
-    words: &[i32],
-    layout: Layout,
-    len: usize,
-    filled: usize,
-    slot: usize,
-) -> ClauseStatus
-    requires coherent { Coherent layout.variables layout.slots len words.now }
-    requires room { filled ≤ layout.slots }
-    requires stored { Stored layout.variables filled words.now }
-    requires within { slot < filled }
-    ensures { result ≡ kind_of (status (on (trail_of layout.variables len words.now)) (slot_of layout.variables words.now slot)) }
-{
-    let n = layout.variables;
-    let start = layout.slot(slot);
-    let count = slot_count(words, layout, slot);
-    clause_status(&words[start..start + count], &words[3 * n..4 * n])
-}
-
-/// The first slot with a falsified clause, or else the first with a unit one.
-pub(crate) fn first_slot(words: &[i32], layout: Layout, len: usize, filled: usize) -> Option<usize>
-    requires coherent { Coherent layout.variables layout.slots len words.now }
-    requires room { filled ≤ layout.slots }
-    requires stored { Stored layout.variables filled words.now }
-    ensures first { learned_at layout.variables words.now result ≡ look_after silent (trail_of layout.variables len words.now) (slots_of layout.variables filled words.now) }
-    ensures within { WithinCount filled result }
-{
-    let mut unit = None;
-    for s in 0..filled {
-        match slot_status(words, layout, len, filled, s) {
-            ClauseStatus::Falsified => return Some(s),
-            ClauseStatus::Unit => unit = unit.or(Some(s)),
-            ClauseStatus::Other => {}
+impl Memory<'_> {
+    /// The first slot with a falsified clause, or else the first with a unit one.
+    pub(crate) fn first_slot(&self) -> Option<usize>
+        ensures first { learned_at self.now.layout.variables self.now.words.now result ≡ look_after silent (trail_in self.now) (slots_in self.now) }
+        ensures within { WithinCount self.now.extent.slots result }
+    {
+        let mut unit = None;
+        for s in 0..self.extent.slots {
+            match self.slot_status(s) {
+                ClauseStatus::Falsified => return Some(s),
+                ClauseStatus::Unit => unit = unit.or(Some(s)),
+                ClauseStatus::Other => {}
+            }
         }
+        unit
     }
-    unit
+
+    /// The status of the clause in a slot.
+    fn slot_status(&self, slot: usize) -> ClauseStatus
+        requires { slot < self.now.extent.slots }
+        ensures { result ≡ kind_of (status (on (trail_in self.now)) (slot_of self.now.layout.variables self.now.words.now slot)) }
+    {
+        let n = self.layout.variables;
+        let start = self.layout.slot(slot);
+        let count = self.slot_count(slot);
+        clause_status(&self.words[start..start + count], &self.words[3 * n..4 * n])
+    }
+
+    /// Takes the clause of a slot in hand, and says how many literals it has.
+    pub(crate) fn recall(&mut self, slot: usize) -> usize
+        requires { slot < self.old.extent.slots }
+        ensures clause { clause_of self.old.layout.variables result self.new.words.now ≡ slot_of self.old.layout.variables self.old.words.now slot }
+        ensures few { result ≤ self.old.layout.variables }
+        ensures frame { Framed (4 * self.old.layout.variables) self.old.layout.variables self.old self.new }
+    {
+        let count = self.slot_count(slot);
+        let start = self.layout.slot(slot);
+        let clause = self.layout.clause(0);
+        self.words.copy_within(start..start + count, clause);
+        count
+    }
+
+    /// How many literals the clause of a slot has.
+    fn slot_count(&self, slot: usize) -> usize
+        requires { slot < self.now.extent.slots }
+        ensures is { result ≡ slot_count self.now.layout.variables self.now.words.now slot }
+        ensures few { result ≤ self.now.layout.variables }
+    {
+        self.words[self.layout.row(self.layout.variables + slot, 0)].unsigned_abs() as usize
+    }
 }

@@ -1,12 +1,13 @@
 //! The states of a session. Each holds the session's words, and a call that leads on takes the one state and gives the other.
-ghost use Rattle.std.specs.Prelude.{◌≡◌, ◌*◌, ◌≤◌, true, length};
+ghost use Rattle.std.specs.Prelude.{◌≡◌, ◌*◌, ◌<◌, ◌≤◌, true, length};
 ghost use Rattle.std.specs.List.{list_all};
+ghost use Rattle.std.specs.Option.{ForSome};
 ghost use Rattle.rules.specs.Literals.{in_range};
 ghost use Rattle.memory.specs.Words.{size};
 ghost use Rattle.memory.specs.Decode.{assumptions_of};
-ghost use Rattle.memory.specs.Searches.{Alive};
 
-use crate::layout::{Extent, Layout};
+use crate::layout::Layout;
+use crate::memory::Memory;
 use crate::report::{Refusal, Report, Verdict};
 
 /// A session between searches, over lent words. It ends only by `close`.
@@ -21,21 +22,17 @@ pub struct Idle<'a> {
 
 /// A search. Its values cannot be read before it is settled.
 pub struct Search<'a> {
-    pub(crate) words: &'a mut [i32],
-    pub(crate) layout: Layout,
-    pub(crate) extent: Extent,
+    pub(crate) memory: Memory<'a>,
     pub(crate) verdict: Verdict,
     pub(crate) failed: Option<usize>,
     pub(crate) answer: Option<Result<Report, Refusal>>,
-    ghost alive: { ∥ Alive layout extent failed words.now ∥₁ },
+    ghost denied: { ForSome failed (λ number. number < memory.extent.assumptions) },
 }
 
 /// A search at rest.
 pub struct Settled<'a> {
-    pub(crate) words: &'a mut [i32],
-    pub(crate) layout: Layout,
-    pub(crate) extent: Extent,
+    pub(crate) memory: Memory<'a>,
     pub(crate) verdict: Verdict,
     pub(crate) failed: Option<usize>,
-    ghost alive: { ∥ Alive layout extent failed words.now ∥₁ },
+    ghost denied: { ForSome failed (λ number. number < memory.extent.assumptions) },
 }

@@ -1,12 +1,15 @@
 //! The trail: the variable at a place, and one literal more.
-ghost use Rattle.std.specs.Prelude.{◌≡◌, ◌+◌, ◌<◌, true, ◌⊎◌, [], length, pos};
+ghost use Rattle.std.specs.Prelude.{◌≡◌, ◌+◌, ◌<◌, ◌≤◌, true, ◌≢◌, [], length};
 ghost use Rattle.rules.specs.Literals.{in_range};
-ghost use Rattle.theory.specs.Trail.{Entry.assumed, Entry.decided, free};
+ghost use Rattle.theory.specs.Trail.{free};
 ghost use Rattle.theory.specs.Chunks.{standing};
-ghost use Rattle.memory.specs.Words.{word_at, index_of, Touched};
-ghost use Rattle.memory.specs.Decode.{as_entry, literal_at, entry_at, trail_of, Coherent, Places};
+ghost use Rattle.theory.specs.Search.{placed};
+ghost use Rattle.memory.specs.Words.{word_at, index_of, size, Laid};
+ghost use Rattle.memory.specs.Decode.{as_entry, standing_word, literal_at, entry_at, reason_count};
+ghost use Rattle.memory.specs.Memories.{trail_in, position_in, Keeps};
 
 use crate::layout::{Layout, index_of};
+use crate::memory::Memory;
 use weights::weigher::Standing;
 
 /// The index of the variable of a word that is a literal in range.
@@ -19,63 +22,59 @@ pub(crate) fn index_at(words: &[i32], layout: Layout, at: usize) -> usize
     index_of(words[at])
 }
 
-/// The index of the variable at a place of the trail, where `len` says how long the trail is.
-pub(crate) fn variable(words: &[i32], layout: Layout, len: usize, place: usize) -> usize
-    requires coherent { Coherent layout.variables layout.slots len words.now }
-    requires within { place < len }
-    ensures is { result ≡ index_of (literal_at layout.variables words.now place) }
-    ensures below { result < layout.variables }
-{
-    index_at(words, layout, 2 * layout.variables + place)
-}
+impl Memory<'_> {
+    /// Places a free literal that no clause implies.
+    pub(crate) fn place(&mut self, literal: i32, standing: Standing)
+        requires unassigned { free self.old.layout.variables (trail_in self.old) literal ≡ true }
+        requires known { standing ≢ Standing.Implied }
+        ensures placed { position_in self.new ≡ placed (position_in self.old) (as_entry (standing_word standing) literal []) }
+        ensures keeps { Keeps self.old self.new }
+    {
+        lay(
+            self.words,
+            self.layout,
+            self.extent.trail,
+            literal,
+            standing,
+        );
+        self.extent.trail += 1;
+    }
 
-/// How the literal at a place of the trail came to stand there.
-pub(crate) fn standing_at(words: &[i32], layout: Layout, len: usize, place: usize) -> Standing
-    requires coherent { Coherent layout.variables layout.slots len words.now }
-    requires within { place < len }
-    ensures { result ≡ standing (entry_at layout.variables words.now place) }
-{
-    let x = variable(words, layout, len, place);
-    match words[layout.row(x, 0)].unsigned_abs() {
-        3 => Standing::Implied,
-        1 => Standing::Assumed,
-        _ => Standing::Decided,
+    /// The index of the variable at a place of the trail.
+    pub(crate) fn variable(&self, place: usize) -> usize
+        requires { place < self.now.extent.trail }
+        ensures is { result ≡ index_of (literal_at self.now.layout.variables self.now.words.now place) }
+        ensures below { result < self.now.layout.variables }
+    {
+        index_at(self.words, self.layout, 2 * self.layout.variables + place)
+    }
+
+    /// How the literal at a place of the trail came to stand there.
+    pub(crate) fn standing_at(&self, place: usize) -> Standing
+        requires { place < self.now.extent.trail }
+        ensures { result ≡ standing (entry_at self.now.layout.variables self.now.words.now place) }
+    {
+        self.layout.standing(self.words, self.variable(place))
+    }
+
+    /// How many other literals the reason of a variable has.
+    pub(crate) fn reason_count(&self, x: usize) -> usize
+        requires { x < self.now.layout.variables }
+        ensures { result ≡ reason_count self.now.layout.variables self.now.words.now x }
+    {
+        self.layout.reason_count(self.words, x)
     }
 }
 
-/// Puts a literal on the trail by its three words: on the trail, as its variable's value, and in its row how it stands.
-fn lay(words: &mut [i32], layout: Layout, len: usize, literal: i32, code: i32)
-    requires coherent { Coherent layout.variables layout.slots len words.old }
-    requires unassigned { free layout.variables (trail_of layout.variables len words.old) literal ≡ true }
-    requires known { (code ≡ pos 1) ⊎ (code ≡ pos 2) }
-    ensures places { Places layout.variables layout.slots len (as_entry code literal []) words.old words.new }
-    ensures coherent { Coherent layout.variables layout.slots (len + 1) words.new }
-    ensures rest { Touched layout.variables len (index_of literal) words.old words.new }
+/// Lays a literal on the trail by its three words: at the trail's end, as its variable's value, and in its row how it stands.
+pub(crate) fn lay(words: &mut [i32], layout: Layout, len: usize, literal: i32, standing: Standing)
+    requires big { size layout.variables layout.slots ≤ length words.old }
+    requires room { len < layout.variables }
+    requires ranged { in_range layout.variables literal ≡ true }
+    ensures { Laid layout.variables len literal (standing_word standing) words.old words.new }
 {
     let x = index_of(literal);
     layout.set_literal(words, len, literal);
     layout.set_value(words, x, literal);
-    layout.set_standing(words, x, code);
-}
-
-/// Places a free literal as assumed.
-pub(crate) fn assume(words: &mut [i32], layout: Layout, len: usize, literal: i32)
-    requires coherent { Coherent layout.variables layout.slots len words.old }
-    requires unassigned { free layout.variables (trail_of layout.variables len words.old) literal ≡ true }
-    ensures places { Places layout.variables layout.slots len (assumed literal) words.old words.new }
-    ensures coherent { Coherent layout.variables layout.slots (len + 1) words.new }
-    ensures rest { Touched layout.variables len (index_of literal) words.old words.new }
-{
-    lay(words, layout, len, literal, 1);
-}
-
-/// Places a free literal as decided.
-pub(crate) fn decide(words: &mut [i32], layout: Layout, len: usize, literal: i32)
-    requires coherent { Coherent layout.variables layout.slots len words.old }
-    requires unassigned { free layout.variables (trail_of layout.variables len words.old) literal ≡ true }
-    ensures places { Places layout.variables layout.slots len (decided literal) words.old words.new }
-    ensures coherent { Coherent layout.variables layout.slots (len + 1) words.new }
-    ensures rest { Touched layout.variables len (index_of literal) words.old words.new }
-{
-    lay(words, layout, len, literal, 2);
+    layout.set_standing(words, x, standing);
 }

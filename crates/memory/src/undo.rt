@@ -4,8 +4,7 @@ ghost use Rattle.theory.specs.Trail.{WellFormed};
 ghost use Rattle.memory.specs.Words.{Outside};
 ghost use Rattle.memory.specs.Decode.{trail_of, unmarked, Coherent};
 
-use crate::layout::{Layout, put_copy};
-use crate::trail::index_at;
+use crate::layout::{Layout, index_of};
 
 /// Takes the marked literals off the trail, where what is left is well formed, and says how many are left.
 /// The others keep their order, and no reason changes.
@@ -17,14 +16,15 @@ pub(crate) fn undo_marked(words: &mut [i32], layout: Layout, len: usize) -> usiz
     ensures outside { Outside (2 * layout.variables) (2 * layout.variables) words.old words.new }
     ensures fewer { result ≤ len }
 {
+    // A slice has no `retain`: each literal that stays moves up to the place `left`.
     let mut left: usize = 0;
-    let base = 2 * layout.variables;
     for place in 0..len {
-        let x = index_at(words, layout, base + place);
+        let literal = layout.literal(words, place);
+        let x = index_of(literal);
         if layout.marked(words, x) {
             layout.set_value(words, x, 0);
         } else {
-            put_copy(words, base + place, base + left);
+            layout.set_literal(words, left, literal);
             left += 1;
         }
     }

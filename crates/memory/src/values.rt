@@ -1,38 +1,41 @@
 //! The value of a literal.
-ghost use Rattle.std.specs.Prelude.{◌≡◌, ℕ, suc, ◌<◌, ◌≤◌, true, length, pos};
+ghost use Rattle.std.specs.Prelude.{◌≡◌, suc, ◌<◌, ◌≤◌, true, length, pos};
 ghost use Rattle.rules.specs.Literals.{in_range};
 ghost use Rattle.rules.specs.Values.{value_in};
 ghost use Rattle.theory.specs.Trail.{on};
 ghost use Rattle.memory.specs.Words.{word_at, size};
-ghost use Rattle.memory.specs.Decode.{trail_of, open_index, Coherent};
+ghost use Rattle.memory.specs.Decode.{open_index};
+ghost use Rattle.memory.specs.Memories.{trail_in};
 
 use crate::layout::Layout;
+use crate::memory::Memory;
 use rules::literal::{Value, value_of};
 
-/// What a literal in range is on the trail that the words stand for, however long that is.
-pub(crate) fn value(words: &[i32], layout: Layout, literal: i32) -> Value
-    requires { size layout.variables layout.slots ≤ length words.now }
-    ensures { (len : ℕ) → Coherent layout.variables layout.slots len words.now → in_range layout.variables literal ≡ true
-        → result ≡ value_in (on (trail_of layout.variables len words.now)) literal }
-{
-    value_of(literal, &words[3 * layout.variables..4 * layout.variables])
-}
+impl Memory<'_> {
+    /// What a literal in range is on the trail.
+    pub(crate) fn value(&self, literal: i32) -> Value
+        requires { in_range self.now.layout.variables literal ≡ true }
+        ensures { result ≡ value_in (on (trail_in self.now)) literal }
+    {
+        let n = self.layout.variables;
+        value_of(literal, &self.words[3 * n..4 * n])
+    }
 
-/// Whether the variable of an index is true on the trail that the words stand for, however long that is.
-pub(crate) fn is_true(words: &[i32], layout: Layout, index: usize) -> bool
-    requires { (size layout.variables layout.slots ≤ length words.now) × (index < layout.variables) }
-    ensures { (len : ℕ) → Coherent layout.variables layout.slots len words.now → result ≡ on (trail_of layout.variables len words.now) (pos (suc index)) }
-{
-    layout.value(words, index) > 0
-}
+    /// What the assumption of a number, from 0, is on the trail.
+    pub(crate) fn assumption_value(&self, number: usize) -> Value
+        requires { number < self.now.extent.assumptions }
+        ensures { result ≡ value_in (on (trail_in self.now)) (word_at self.now.words.now number) }
+    {
+        self.value(self.words[number])
+    }
 
-/// What the literal at an address is.
-pub(crate) fn value_at(words: &[i32], layout: Layout, at: usize) -> Value
-    requires { (size layout.variables layout.slots ≤ length words.now) × (at < length words.now) }
-    ensures { (len : ℕ) → Coherent layout.variables layout.slots len words.now → in_range layout.variables (word_at words.now at) ≡ true
-        → result ≡ value_in (on (trail_of layout.variables len words.now)) (word_at words.now at) }
-{
-    value(words, layout, words[at])
+    /// Whether the variable of an index is true on the trail.
+    pub(crate) fn is_true(&self, index: usize) -> bool
+        requires { index < self.now.layout.variables }
+        ensures { result ≡ on (trail_in self.now) (pos (suc index)) }
+    {
+        self.layout.value(self.words, index) > 0
+    }
 }
 
 /// Whether a variable has no value.
@@ -40,5 +43,5 @@ pub(crate) fn is_open(words: &[i32], layout: Layout, x: usize) -> bool
     requires { (size layout.variables layout.slots ≤ length words.now) × (x < layout.variables) }
     ensures { result ≡ open_index layout.variables words.now x }
 {
-    layout.value(words, x).unsigned_abs() == 0
+    layout.value(words, x) == 0
 }

@@ -15,7 +15,7 @@ use rules::groups::GroupBook;
 use rules::join::Join;
 use rules::literal::{Value, value_of};
 use rules::refusal::Refusal;
-use rules::source::{Source, Told};
+use rules::source::Source;
 use std::io;
 
 /// How many variables there are: the four steps, and the two facts.
@@ -24,6 +24,28 @@ const VARIABLES: u32 = 6;
 /// The same, for places on a page.
 const COUNT: usize = 6;
 
+/// What the program asks, with the literals that are known then.
+const QUESTIONS: [(&str, &[i32]); 6] = [
+    ("Nothing is known yet.", &[]),
+    (
+        "The worker finds the queue empty, and the wakeup comes before the sleep.",
+        &[5, 6],
+    ),
+    ("The same, but the producer takes step 1.", &[5, 6, -1]),
+    (
+        "The same, but the worker takes steps 1 and 4.",
+        &[5, 6, 1, 4],
+    ),
+    (
+        "The same, but the worker takes steps 1, 2 and 4.",
+        &[5, 6, 1, 2, 4],
+    ),
+    (
+        "The same, but the worker takes steps 1 and 4, and the producer 2 and 3.",
+        &[5, 6, 1, 4, -2, -3],
+    ),
+];
+
 fn main(rt: HostRuntime) -> anyhow::Result<()> {
     run(&rt)
 }
@@ -31,14 +53,10 @@ fn main(rt: HostRuntime) -> anyhow::Result<()> {
 fn run(rt: &HostRuntime) -> anyhow::Result<()> {
     let mut clause_words = [0; 24];
     let mut clauses = ClauseBook::open(&mut clause_words, VARIABLES);
-    if fill_clauses(&mut clauses).is_err() {
-        return Err(anyhow!("the clauses do not fit their words"));
-    }
+    fill_clauses(&mut clauses).map_err(|_| anyhow!("the clauses do not fit their words"))?;
     let mut group_words = [0; 12];
     let mut groups = GroupBook::open(&mut group_words, VARIABLES);
-    if fill_groups(&mut groups).is_err() {
-        return Err(anyhow!("the groups do not fit their words"));
-    }
+    fill_groups(&mut groups).map_err(|_| anyhow!("the groups do not fit their words"))?;
     let clauses = clauses.seal();
     let groups = groups.seal();
     let rules = Join {
@@ -49,37 +67,9 @@ fn run(rt: &HostRuntime) -> anyhow::Result<()> {
         "A worker checks a queue, then sleeps. A producer pushes a job, then wakes the worker."
     )?;
     println!(rt; "Which schedules of these four steps lose the wakeup?")?;
-    ask(rt, &rules, "Nothing is known yet.", &[])?;
-    ask(
-        rt,
-        &rules,
-        "The worker finds the queue empty, and the wakeup comes before the sleep.",
-        &[5, 6],
-    )?;
-    ask(
-        rt,
-        &rules,
-        "The same, but the producer takes step 1.",
-        &[5, 6, -1],
-    )?;
-    ask(
-        rt,
-        &rules,
-        "The same, but the worker takes steps 1 and 4.",
-        &[5, 6, 1, 4],
-    )?;
-    ask(
-        rt,
-        &rules,
-        "The same, but the worker takes steps 1, 2 and 4.",
-        &[5, 6, 1, 2, 4],
-    )?;
-    ask(
-        rt,
-        &rules,
-        "The same, but the worker takes steps 1 and 4, and the producer 2 and 3.",
-        &[5, 6, 1, 4, -2, -3],
-    )?;
+    for (question, known) in QUESTIONS {
+        ask(rt, &rules, question, known)?;
+    }
     Ok(())
 }
 
@@ -112,8 +102,8 @@ fn ask<S: Source>(rt: &HostRuntime, rules: &S, question: &str, known: &[i32]) ->
         }
     }
     match rules.question(&mut page) {
-        Told::Silent => println!(rt; "  No rule is broken and none says more: the wakeup is lost."),
-        Told::Clause(len) => print_clause(rt, &page, len),
+        None => println!(rt; "  No rule is broken and none says more: the wakeup is lost."),
+        Some(len) => print_clause(rt, &page, len),
     }
 }
 
@@ -121,34 +111,33 @@ fn ask<S: Source>(rt: &HostRuntime, rules: &S, question: &str, known: &[i32]) ->
 fn print_clause(rt: &HostRuntime, page: &[i32; 2 * COUNT], len: usize) -> io::Result<()> {
     let valuation = &page[0..COUNT];
     let clause = &page[COUNT..COUNT + len.min(COUNT)];
-    for literal in clause {
-        if value_of(*literal, valuation) == Value::Unassigned {
-            let fact = in_words(literal.unsigned_abs(), *literal > 0);
-            return println!(rt; "  It follows that {fact}.");
-        }
+    let open = clause.iter().find(|literal| value_of(**literal, valuation) == Value::Unassigned);
+    if let Some(literal) = open {
+        let fact = in_words(*literal);
+        return println!(rt; "  It follows that {fact}.");
     }
     println!(rt; "  These cannot all be:")?;
     for literal in clause {
-        let fact = in_words(literal.unsigned_abs(), *literal < 0);
+        let fact = in_words(literal.wrapping_neg());
         println!(rt; "  - {fact}")?;
     }
     Ok(())
 }
 
-/// What a variable says where it is true, and where it is false.
-fn in_words(variable: u32, holds: bool) -> &'static str {
-    match (variable, holds) {
-        (1, true) => "the worker takes step 1",
-        (1, false) => "the producer takes step 1",
-        (2, true) => "the worker takes step 2",
-        (2, false) => "the producer takes step 2",
-        (3, true) => "the worker takes step 3",
-        (3, false) => "the producer takes step 3",
-        (4, true) => "the worker takes step 4",
-        (4, false) => "the producer takes step 4",
-        (5, true) => "the worker finds the queue empty",
-        (5, false) => "the worker finds the job",
-        (_, true) => "the wakeup comes before the sleep",
-        (_, false) => "the wakeup comes after the sleep",
+/// What a literal says.
+fn in_words(literal: i32) -> &'static str {
+    match literal {
+        1 => "the worker takes step 1",
+        -1 => "the producer takes step 1",
+        2 => "the worker takes step 2",
+        -2 => "the producer takes step 2",
+        3 => "the worker takes step 3",
+        -3 => "the producer takes step 3",
+        4 => "the worker takes step 4",
+        -4 => "the producer takes step 4",
+        5 => "the worker finds the queue empty",
+        -5 => "the worker finds the job",
+        6 => "the wakeup comes before the sleep",
+        _ => "the wakeup comes after the sleep",
     }
 }

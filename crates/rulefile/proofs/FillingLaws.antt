@@ -1,5 +1,5 @@
 -- Laws of the rules of a file: one rule more, and then the rest.
-use Rattle.std.proofs.Common.{◌≡◌, ℕ, ◌-◌, ◌<◌, ◌≤◌, Bool, true, false, cond, eqb, List, [], ◌∷◌, ◌++◌, length, ℤ, nat_abs, Ok, Err, codes, fold, Result, sym, refl, ap, ◌∙◌, subst, append_assoc, append-nil, arith}
+use Rattle.std.proofs.Common.{◌≡◌, ℕ, ◌-◌, ◌<◌, ◌≤◌, Bool, true, false, cond, eqb, List, [], ◌∷◌, ◌++◌, length, ℤ, nat_abs, Some, None, Ok, Err, codes, fold, Option, Result, sym, refl, ap, ◌∙◌, subst, append_assoc, append-nil, arith}
 use Rattle.std.specs.Str.{bytes_eq}
 use Rattle.std.proofs.lemmas.Bool.{eqb-false}
 use Rattle.rules.specs.Rows.{is_zero}
@@ -11,7 +11,6 @@ use Rattle.rulefile.specs.declared.faults.Misfit.TheVariants.{NotAllowed, Count}
 use Rattle.rulefile.specs.declared.faults.FormFault.TheVariants as F
 use Rattle.rulefile.specs.declared.faults.BookFault.{BookFault}
 use Rattle.rulefile.specs.declared.faults.BookFault.TheVariants as B
-use Rattle.rulefile.specs.declared.form.Natural.{Natural}
 use Rattle.rulefile.specs.declared.form.Number.{Number}
 use Rattle.rulefile.specs.declared.form.Start.{Start}
 use Rattle.rulefile.specs.declared.form.Start.TheVariants as S
@@ -50,7 +49,7 @@ module _ (n : ℕ) (p : Position) where
   within_ruled r (end q ∷ ts) = refl
 
 -- the rules from a group's limit on
-abbrev grouped : ℕ → Position → Taken Natural → Rules
+abbrev grouped : ℕ → Position → Taken (Number ℕ) → Rules
 grouped n p (Ok t) = ruled n (group t.0.value []) p (literals_next t.1)
 grouped n p (Err f) = broken f
 
@@ -66,8 +65,11 @@ limit_grouped n p (bad f ∷ ts) = refl
 limit_grouped n p (end q ∷ ts) = refl
 
 -- the rules from what begins between them
-abbrev pub started : ℕ → Taken Start → Rules
-started n (Ok t) = elim t.0 [ S.Clause x ↦ ruled (n - 1) (clause []) x.at (literals_from x.value t.1) | S.Group p ↦ grouped n p (natural_next t.1) | S.Nothing ↦ all ]
+abbrev pub started : ℕ → Taken (Option Start) → Rules
+started n (Ok t) = elim t.0 [
+  | Some k ↦ elim k [ S.Clause x ↦ ruled (n - 1) (clause []) x.at (literals_from x.value t.1) | S.Group p ↦ grouped n p (natural_next t.1) ]
+  | None ↦ all
+]
 started n (Err f) = broken f
 
 pub rules_started : (n : ℕ) (ts : List Seen) → rules_in n between ts ≡ started n (start_next n ts)
@@ -75,17 +77,17 @@ rules_started n [] = refl
 rules_started n (bad f ∷ ts) = refl
 rules_started n (end p ∷ ts) = by (eqb n 0)
   where
-    by : (t : Bool) → cond t all (broken (F.Form Count p)) ≡ started n (cond t (Ok (S.Nothing, end p ∷ ts)) (misfit Count p))
+    by : (t : Bool) → cond t all (broken (F.Form Count p)) ≡ started n (cond t (Ok (None, end p ∷ ts)) (misfit Count p))
     by true = refl
     by false = refl
 rules_started n (other w p ∷ ts) = by (bytes_eq w (codes "a"))
   where
-    by : (t : Bool) → cond t (rules_in n (limit p) ts) (broken (F.Form NotAllowed p)) ≡ started n (cond t (Ok (S.Group p, ts)) (misfit NotAllowed p))
+    by : (t : Bool) → cond t (rules_in n (limit p) ts) (broken (F.Form NotAllowed p)) ≡ started n (cond t (Ok (Some (S.Group p), ts)) (misfit NotAllowed p))
     by true = limit_grouped n p ts
     by false = refl
 rules_started n (number w z p ∷ ts) = by (eqb n 0)
   where
-    by : (t : Bool) → cond t (broken (F.Form Count p)) (cond (is_zero z) (rule (clause []) p (rules_in (n - 1) between ts)) (rules_in (n - 1) (within (clause (z ∷ [])) p) ts)) ≡ started n (cond t (misfit Count p) (Ok (S.Clause (record { value = z; at = p }), ts)))
+    by : (t : Bool) → cond t (broken (F.Form Count p)) (cond (is_zero z) (rule (clause []) p (rules_in (n - 1) between ts)) (rules_in (n - 1) (within (clause (z ∷ [])) p) ts)) ≡ started n (cond t (misfit Count p) (Ok (Some (S.Clause (record { value = z; at = p })), ts)))
     by true = refl
     by false = number_ruled (n - 1) p (clause []) z ts (within_ruled (n - 1) p (clause (z ∷ [])) ts)
 
@@ -97,8 +99,8 @@ Went len P (Ok t) = (length t.1 ≤ len) × P t.0
 Went len P (Err f) = Unit {0}
 
 -- what begins is one word, and a clause begins only where one is left
-abbrev Began : ℕ → ℕ → Taken Start → Type 0
-Began n len (Ok t) = elim t.0 [ S.Clause x ↦ (0 < n) × (length t.1 < len) | S.Group p ↦ length t.1 < len | S.Nothing ↦ Unit {0} ]
+abbrev Began : ℕ → ℕ → Taken (Option Start) → Type 0
+Began n len (Ok t) = elim t.0 [ Some k ↦ elim k [ S.Clause x ↦ (0 < n) × (length t.1 < len) | S.Group p ↦ length t.1 < len ] | None ↦ Unit {0} ]
 Began n len (Err f) = Unit {0}
 
 began : (n : ℕ) (ts : List Seen) → Began n (length ts) (start_next n ts)
@@ -106,17 +108,17 @@ began n [] = tt
 began n (bad f ∷ ts) = tt
 began n (end p ∷ ts) = by (eqb n 0)
   where
-    by : (t : Bool) → Began n (length (end p ∷ ts)) (cond t (Ok (S.Nothing, end p ∷ ts)) (misfit Count p))
+    by : (t : Bool) → Began n (length (end p ∷ ts)) (cond t (Ok (None, end p ∷ ts)) (misfit Count p))
     by true = tt
     by false = tt
 began n (other w p ∷ ts) = by (bytes_eq w (codes "a"))
   where
-    by : (t : Bool) → Began n (length (other w p ∷ ts)) (cond t (Ok (S.Group p, ts)) (misfit NotAllowed p))
+    by : (t : Bool) → Began n (length (other w p ∷ ts)) (cond t (Ok (Some (S.Group p), ts)) (misfit NotAllowed p))
     by true = omega arith
     by false = tt
 began n (number w z p ∷ ts) = by (eqb n 0) refl
   where
-    by : (t : Bool) → eqb n 0 ≡ t → Began n (length (number w z p ∷ ts)) (cond t (misfit Count p) (Ok (S.Clause (record { value = z; at = p }), ts)))
+    by : (t : Bool) → eqb n 0 ≡ t → Began n (length (number w z p ∷ ts)) (cond t (misfit Count p) (Ok (Some (S.Clause (record { value = z; at = p })), ts)))
     by true e = tt
     by false e = (let ne = eqb-false n 0 e in omega arith, omega arith)
 
@@ -158,7 +160,7 @@ natural_went : (ts : List Seen) → Went (length ts) Any (natural_next ts)
 natural_went [] = tt
 natural_went (number w z p ∷ ts) = by (negative z)
   where
-    by : (t : Bool) → Went (length (number w z p ∷ ts)) Any (cond {A = Taken Natural} t (misfit NotAllowed p) (Ok (record { value = nat_abs z; at = p }, ts)))
+    by : (t : Bool) → Went (length (number w z p ∷ ts)) Any (cond {A = Taken (Number ℕ)} t (misfit NotAllowed p) (Ok (record { value = nat_abs z; at = p }, ts)))
     by true = tt
     by false = (omega arith, tt)
 natural_went (other w p ∷ ts) = tt
@@ -168,7 +170,7 @@ natural_went (end p ∷ ts) = tt
 group_went : (b : G.Filling) (p : Position) (ts : List Seen) → Went (length ts) (λ g. G.clean g ≡ g) (group_read b p (natural_next ts))
 group_went b p ts = by (natural_next ts) (natural_went ts)
   where
-    by : (k : Taken Natural) → Went (length ts) Any k → Went (length ts) (λ g. G.clean g ≡ g) (group_read b p k)
+    by : (k : Taken (Number ℕ)) → Went (length ts) Any k → Went (length ts) (λ g. G.clean g ≡ g) (group_read b p k)
     by (Ok t) h =
         rule_went (G.answer_to b) (λ ls. G.settled b (G.group_of t.0.value ls) (Ok tt)) p (λ g. G.clean g ≡ g) (λ ls. refl) (length ts) (literals_next t.1)
         (literals_went (length ts) t.1 h.0)
@@ -208,7 +210,7 @@ clause_filled b n p (Ok t) r c rest e =
     ∙ on_placed (λ x ts. filled (both x b.groups) (rules_in n between ts)) r (C.answer_to b.clauses t.0) p (C.settled b.clauses (C.once t.0) (Ok tt)) c t.1 rest e
 clause_filled b n p (Err f) r c rest e = on_told {Y = C.Filling × List Seen} r (c, rest) (B.Form f) _ e
 
-group_filled : (b : Books) (n : ℕ) (p : Position) (k : Taken Natural) (r : Result (Unit {0}) BookFault) (g : G.Filling) (rest : List Seen) → group_read b.groups p k ≡ told r (g, rest)
+group_filled : (b : Books) (n : ℕ) (p : Position) (k : Taken (Number ℕ)) (r : Result (Unit {0}) BookFault) (g : G.Filling) (rest : List Seen) → group_read b.groups p k ≡ told r (g, rest)
     → filled b (grouped n p k) ≡ on r (filled (both b.clauses g) (rules_in n between rest))
 group_filled b n p (Ok t) r g rest e = by (literals_next t.1) e
   where
@@ -222,7 +224,7 @@ group_filled b n p (Err f) r g rest e = on_told {Y = G.Filling × List Seen} r (
 -- ONE RULE MORE
 
 -- a clause begins, and is read
-module _ (b : Books) (n : ℕ) (ts ts' : List Seen) (x : Number) (starts : start_next n ts ≡ Ok (S.Clause x, ts')) where
+module _ (b : Books) (n : ℕ) (ts ts' : List Seen) (x : Number ℤ) (starts : start_next n ts ≡ Ok (Some (S.Clause x), ts')) where
   pub clause_left : 0 < n
   clause_left = (subst (Began n (length ts)) starts (began n ts)).0
 
@@ -237,7 +239,7 @@ module _ (b : Books) (n : ℕ) (ts ts' : List Seen) (x : Number) (starts : start
       (omega (arith, w.0), w.1)
 
 -- a group begins, and is read
-module _ (b : Books) (n : ℕ) (ts ts' : List Seen) (p : Position) (starts : start_next n ts ≡ Ok (S.Group p, ts')) where
+module _ (b : Books) (n : ℕ) (ts ts' : List Seen) (p : Position) (starts : start_next n ts ≡ Ok (Some (S.Group p), ts')) where
   pub group_step : (r : Result (Unit {0}) BookFault) (g : G.Filling) (rest : List Seen) → group_read b.groups p (natural_next ts') ≡ told r (g, rest)
       → filled b (rules_in n between ts) ≡ on r (filled (both b.clauses g) (rules_in n between rest))
   group_step r g rest e = ap (filled b) (rules_started n ts ∙ ap (started n) starts) ∙ group_filled b n p (natural_next ts') r g rest e

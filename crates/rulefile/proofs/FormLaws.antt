@@ -9,7 +9,7 @@ use Rattle.rulefile.specs.Form.{Taken, number_next, with_literal, literals_next,
 use Rattle.rulefile.specs.Outcomes.{pushes}
 
 -- the literals from a number on that is still to be read
-abbrev pub literals_of : Taken Number → Taken (List ℤ)
+abbrev pub literals_of : Taken (Number ℤ) → Taken (List ℤ)
 literals_of (Ok t) = literals_from t.0.value t.1
 literals_of (Err f) = Err f
 
@@ -29,7 +29,7 @@ pub err_ok : {X E : Type 0} {f : E} {x : X} → ◌≡◌ {A = Result X E} (Err 
 err_ok e = let z : ◌≡◌ {A = ℕ} 0 1 = cc in omega arith
 
 -- a number is one word
-pub number_shorter : (ts rest : List Seen) (x : Number) → number_next ts ≡ Ok (x, rest) → length rest < length ts
+pub number_shorter : (ts rest : List Seen) (x : Number ℤ) → number_next ts ≡ Ok (x, rest) → length rest < length ts
 number_shorter [] rest x e = absurd (err_ok e)
 number_shorter (number w z p ∷ ts) rest x e = omega (arith, ap left e)
 number_shorter (other w p ∷ ts) rest x e = absurd (err_ok e)
@@ -44,7 +44,7 @@ module _ {B : Type 0} (push : B → ℤ → B) where
   pushes_one b z (Err f) = refl
 
   -- one literal more, and then what the next number makes
-  pub pushes_more : (b b' : B) (z : ℤ) (ts : List Seen) → is_zero z ≡ false → SFits w32 z → b' ≡ push b (to_z w32 (of_z w32 z)) → (next : Taken Number) → number_next ts ≡ next
+  pub pushes_more : (b b' : B) (z : ℤ) (ts : List Seen) → is_zero z ≡ false → SFits w32 z → b' ≡ push b (to_z w32 (of_z w32 z)) → (next : Taken (Number ℤ)) → number_next ts ≡ next
       → pushes push b (literals_from z ts) ≡ pushes push b' (literals_of next)
   pushes_more b b' z ts h fits e next n =
       ap (pushes push b) (cond-false (is_zero z) _ _ h) ∙ pushes_one b z (literals_next ts)

@@ -10,7 +10,7 @@ use Rattle.rulefile.specs.declared.faults.Misfit.TheVariants.{NotAllowed, Count}
 use Rattle.rulefile.specs.declared.faults.FormFault.TheVariants as F
 use Rattle.rulefile.specs.declared.faults.BookFault.{BookFault}
 use Rattle.rulefile.specs.declared.faults.BookFault.TheVariants as B
-use Rattle.rulefile.specs.declared.form.Natural.{Natural}
+use Rattle.rulefile.specs.declared.form.Number.{Number}
 use Rattle.rulefile.specs.Words.{Seen, number, other, bad, end}
 use Rattle.rulefile.specs.Form.{Taken, negative, misfit, limited, count_next, word_next, and_then, opening, with_literal, literals_next, literals_from}
 use Rattle.rulefile.specs.Outcomes.{Rule, clause, group, extended, Rules, all, broken, rule, between, limit, within, rules_in, Books, fresh, answer, with_rule, filled, counted, opened, outcome}
@@ -238,13 +238,13 @@ word_ok key (other w p ∷ ts) x e = by (bytes_eq w key) refl e
     by true h q = (p, let i = same_bytes w key h in let j = ok_second q in cc)
     by false h q = absurd (err_ok q)
 
-record CountAt (most : ℕ) (ts : List Seen) (x : Natural) (rest : List Seen) : Type 0 where
+record CountAt (most : ℕ) (ts : List Seen) (x : Number ℕ) (rest : List Seen) : Type 0 where
   word : List ℕ
   at : Position
   is : ts ≡ number word (pos x.value) at ∷ rest
   low : x.value ≤ most
 
-count_ok : (most : ℕ) (ts : List Seen) (x : Natural) (rest : List Seen) → count_next most ts ≡ Ok (x, rest) → CountAt most ts x rest
+count_ok : (most : ℕ) (ts : List Seen) (x : Number ℕ) (rest : List Seen) → count_next most ts ≡ Ok (x, rest) → CountAt most ts x rest
 count_ok most [] x rest e = absurd (err_ok e)
 count_ok most (other w p ∷ ts) x rest e = absurd (err_ok e)
 count_ok most (bad f ∷ ts) x rest e = absurd (err_ok e)
@@ -257,7 +257,7 @@ count_ok most (number w z p ∷ ts) x rest e = by (negative z) refl (ltb most (n
     by false h true i q = absurd (err_ok (sym (cond-true (ltb most (nat_abs z)) _ _ i) ∙ q))
     by false h false i q =
         let j = sym (cond-false (ltb most (nat_abs z)) _ _ i) ∙ q in
-        let v : nat_abs z ≡ x.value = ap (λ (k : Natural). k.value) (ok_first j) in
+        let v : nat_abs z ≡ x.value = ap (λ (k : Number ℕ). k.value) (ok_first j) in
         record { word = w; at = p; is = ap (λ k. number w k p ∷ ts) (plain_is z h ∙ ap pos v) ∙ ap (λ k. number w (pos x.value) p ∷ k) (ok_second j); low = subst (λ k. k ≤ most) v (ltb-false most (nat_abs z) i) }
 
 -- a head, and rules that fill the books
@@ -272,11 +272,11 @@ record Headed (c g : ℕ) (ts : List Seen) (b : Books) : Type 0 where
 head_sound : (c g : ℕ) (ts : List Seen) (b : Books) → outcome c g ts ≡ Ok b → Headed c g ts b
 head_sound c g ts b e = by (opening ts) refl e
   where
-    by : (t : Taken Natural) → opening ts ≡ t → opened c g t ≡ Ok b → Headed c g ts b
+    by : (t : Taken (Number ℕ)) → opening ts ≡ t → opened c g t ≡ Ok b → Headed c g ts b
     by (Err f) q h = absurd (err_ok h)
     by (Ok t) q h = on (count_next 65535 t.1) refl h
       where
-        on : (u : Taken Natural) → count_next 65535 t.1 ≡ u → counted (fresh t.0.value c g) u ≡ Ok b → Headed c g ts b
+        on : (u : Taken (Number ℕ)) → count_next 65535 t.1 ≡ u → counted (fresh t.0.value c g) u ≡ Ok b → Headed c g ts b
         on (Err f) i k = absurd (err_ok k)
         on (Ok u) i k =
             let x = and_then_ok (word_next (codes "p") ts) (λ rest. and_then (word_next (codes "cnf") rest) (count_next 1000)) t q in
@@ -298,8 +298,8 @@ head_sound c g ts b e = by (opening ts) refl e
 
 -- a head as it is read
 record HeadRead (ts : List Seen) (n m : ℕ) (after : List Seen) : Type 0 where
-  variables : Natural
-  count : Natural
+  variables : Number ℕ
+  count : Number ℕ
   rest : List Seen
   opens : opening ts ≡ Ok (variables, rest)
   counts : count_next 65535 rest ≡ Ok (count, after)
@@ -373,8 +373,8 @@ file_once ts n n' rules rules' f g =
     let b = head_read ts n' g.count g.body g.headed in
     let opens = sym a.opens ∙ b.opens in
     let counts = sym a.counts ∙ ap (count_next 65535) (ok_second opens) ∙ b.counts in
-    let m : f.count ≡ g.count = sym a.count_is ∙ ap (λ (x : Natural). x.value) (ok_first counts) ∙ b.count_is in (
-      sym a.variables_is ∙ ap (λ (x : Natural). x.value) (ok_first opens) ∙ b.variables_is,
+    let m : f.count ≡ g.count = sym a.count_is ∙ ap (λ (x : Number ℕ). x.value) (ok_first counts) ∙ b.count_is in (
+      sym a.variables_is ∙ ap (λ (x : Number ℕ). x.value) (ok_first opens) ∙ b.variables_is,
       whole_once (rules_in g.count between g.body) rules rules'
           (subst (λ k. Whole (rules_in k between g.body) rules) m (subst (λ k. Whole (rules_in f.count between k) rules) (ok_second counts) (file_whole ts n rules f)))
           (file_whole ts n' rules' g),

@@ -1,4 +1,3 @@
-mod Table
 mod NumberLaws
 mod WordLaws
 mod SizeLaws

@@ -10,7 +10,6 @@ use Rattle.rulefile.specs.declared.faults.BookFault.{BookFault}
 use Rattle.rulefile.specs.Words.{Seen}
 use Rattle.rulefile.specs.declared.faults.FormFault.{FormFault}
 use Rattle.rulefile.specs.declared.faults.BookFault.TheVariants as B
-use Rattle.rulefile.specs.declared.form.Natural.{Natural}
 use Rattle.rulefile.specs.declared.form.Number.{Number}
 use Rattle.rulefile.specs.Form.{Taken, number_next}
 use Rattle.rulefile.specs.Outcomes.{told, pushes, placed, rule_read, clause_read, group_rule, group_read}
@@ -71,7 +70,7 @@ group_ended k b clean = rule_ended G.pushed G.ending (λ e. G.settled e (G.group
     (λ ls e is. GF.pushed_whole k b ls e (is ∙ ap (λ i. fold G.pushed i ls) (sym clean)))
 
 -- a group whose limit has been read, by its first number
-pub group_first : (b : G.Filling) (p : Position) (limit : Taken Natural) (k : Natural) (ts : List Seen) → limit ≡ Ok (k, ts) → (next : Taken Number) → number_next ts ≡ next
+pub group_first : (b : G.Filling) (p : Position) (limit : Taken (Number ℕ)) (k : Number ℕ) (ts : List Seen) → limit ≡ Ok (k, ts) → (next : Taken (Number ℤ)) → number_next ts ≡ next
     → group_read b p limit ≡ group_rule b k.value p (literals_of next)
 group_first b p limit k ts e next n = ap (group_read b p) e ∙ ap (group_rule b k.value p) (literals_number ts ∙ ap literals_of n)
 

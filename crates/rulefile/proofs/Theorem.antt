@@ -2,13 +2,14 @@
 use Rattle.std.proofs.Common.{◌≡◌, ℕ, ◌≤◌, Bool, true, false, cond, ◌&&◌, ◌||◌, eqb, ltb, List, [], ◌∷◌, ◌++◌, map, ℤ, Ok, Err, fold, Result, sym, refl, ap, ◌∙◌, append_assoc, append-nil}
 use Rattle.std.specs.List.{list_all}
 use Rattle.std.proofs.lemmas.Bool.{cond-true, cond-false, eq-eqb, le-ltb, false≢true}
+use Rattle.std.proofs.Math.Bool.{or_assoc, or-false}
 use Rattle.rules.specs.Literals.{has, any_pass}
 use Rattle.rules.specs.Sources.{makes, satisfies, Meaning, together, mute}
 use Rattle.rules.specs.Books.{Group, keeps, clause_book, group_book}
 use Rattle.rules.specs.Drafts.{book_count}
 use Rattle.rules.specs.ClauseFilling as C
 use Rattle.rules.specs.GroupFilling as G
-use Rattle.rules.proofs.Literals.{has_any}
+use Rattle.rules.proofs.Literals.{has_any, any_push}
 use Rattle.rulefile.specs.declared.faults.BookFault.{BookFault}
 use Rattle.rulefile.specs.Words.{Seen}
 use Rattle.rulefile.specs.Outcomes.{Rule, clause, group, Books, with_rule, outcome, told}
@@ -28,26 +29,14 @@ count_same n h = cond-false (ltb 1000 n) 0 n (le-ltb 1000 n h)
 
 -- WHAT THEY ADMIT
 
-or_none : (b : Bool) → (b || false) ≡ b
-or_none true = refl
-or_none false = refl
-
-or_assoc : (a b c : Bool) → ((a || b) || c) ≡ (a || (b || c))
-or_assoc true b c = refl
-or_assoc false b c = refl
-
 or_repeat : (a b c : Bool) → (b ≡ true → a ≡ true) → (a || c) ≡ (a || (b || c))
 or_repeat true b c h = refl
 or_repeat false true c h = absurd (false≢true (h refl))
 or_repeat false false c h = refl
 
-any_push : (p : ℤ → Bool) (ls : List ℤ) (l : ℤ) → any_pass p (ls ++ (l ∷ [])) ≡ (any_pass p ls || p l)
-any_push p [] l = or_none (p l)
-any_push p (k ∷ ls) l = ap (λ b. p k || b) (any_push p ls l) ∙ sym (or_assoc (p k) (any_pass p ls) (p l))
-
 -- repeats make no difference
 any_once : (p : ℤ → Bool) (kept ls : List ℤ) → any_pass p (C.once_after kept ls) ≡ (any_pass p kept || any_pass p ls)
-any_once p kept [] = sym (or_none (any_pass p kept))
+any_once p kept [] = sym (or-false (any_pass p kept))
 any_once p kept (l ∷ ls) = by (has kept l) refl (λ k. any_once p k ls)
   where
     by : (t : Bool) → has kept l ≡ t → ((k : List ℤ) → any_pass p (C.once_after k ls) ≡ (any_pass p k || any_pass p ls))

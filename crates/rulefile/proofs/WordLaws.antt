@@ -1,7 +1,11 @@
 -- Laws of gaps and words: one byte more, one word more.
-use Rattle.std.proofs.Common.{◌≡◌, ℕ, suc, ◌+◌, ◌-◌, ◌<◌, ◌≤◌, Bool, true, false, cond, List, [], ◌∷◌, ◌++◌, length, get_or, take, drop, ℤ, Some, None, Ok, Err, Option, Result, sym, refl, ap, ◌∙◌, append_assoc, append-nil, add-zero, arith}
+use Rattle.std.proofs.Common.{◌≡◌, ℕ, suc, ◌+◌, ◌<◌, ◌≤◌, Bool, true, false, cond, ltb, List, [], ◌∷◌, ◌++◌, length, get_or, take, drop, ℤ, Some, None, Ok, Err, Option, Result, unwrap_or, sym, refl, ap, ◌∙◌, append_assoc, append-nil, add-zero, add-one, length-take, arith}
 use mathlib.Core.Bool.{false≢true}
-use Rattle.std.proofs.lemmas.List.{take_rest, at_drop_more, at_drop_all, drop-drop}
+use Rattle.std.proofs.lemmas.List.{at_drop_more, at_drop_all, drop-drop}
+use Rattle.std.proofs.lemmas.List.Recursion.{is_position_or_len}
+use Rattle.std.proofs.lemmas.Bool.{cond_both}
+use Rattle.std.proofs.lemmas.Bool.Decides.{nat_tests}
+use Rattle.std.specs.List.{position_or_len, position as first_place}
 use Rattle.rulefile.specs.Bytes.{class_of}
 use Rattle.rulefile.specs.declared.bytes.Class.{Class}
 use Rattle.rulefile.specs.declared.bytes.Class.TheVariants.{Blank, LineEnd, Digit, Minus, Other}
@@ -14,45 +18,40 @@ use Rattle.rulefile.specs.Words.{gap_class, is_gap, in_line, in_comment, passed,
 
 -- A WORD'S BYTES
 
-pub run_stop : (s : List ℕ) (n : ℕ) → n < length s → is_gap (get_or s n 0) ≡ true → run (drop n s) ≡ 0
-run_stop s n h e = at_drop_more run s n 0 h ∙ ap (λ (t : Bool). cond t 0 (run (drop (n + 1) s) + 1)) e
+run_place : (bs : List ℕ) → run bs ≡ position_or_len is_gap bs
+run_place bs = is_position_or_len run is_gap refl (λ b bs. ap (λ n. cond (is_gap b) 0 n) (let e : run bs + 1 ≡ 1 + run bs = omega arith in e)) bs
+
+run_within : (bs : List ℕ) → run bs ≤ length bs
+run_within [] = omega arith
+run_within (b ∷ bs) = cond_both (is_gap b) 0 (run bs + 1) (λ n. n ≤ length (b ∷ bs)) (λ _. omega arith) (λ _. omega (arith, run_within bs))
+
+-- the place of the first byte that is not of a word, or all of them
+pub run_position : (bs : List ℕ) → unwrap_or (first_place is_gap bs) (length bs) ≡ run bs
+run_position bs =
+    let short : position_or_len is_gap bs ≤ length bs = omega (arith, run_within bs, run_place bs) in
+    cond_both (ltb (position_or_len is_gap bs) (length bs)) (Some (position_or_len is_gap bs)) None (λ o. unwrap_or o (length bs) ≡ run bs) (λ _. sym (run_place bs)) (λ e. grind (arith, nat_tests, run_place))
 
 pub run_more : (s : List ℕ) (n : ℕ) → n < length s → is_gap (get_or s n 0) ≡ false → run (drop n s) ≡ run (drop (n + 1) s) + 1
 run_more s n h e = at_drop_more run s n 0 h ∙ ap (λ (t : Bool). cond t 0 (run (drop (n + 1) s) + 1)) e
-
-pub run_end : (s : List ℕ) (n : ℕ) → length s ≤ n → run (drop n s) ≡ 0
-run_end s n h = at_drop_all run s n h
 
 -- A GAP'S BYTES
 
 abbrev gap_on : ℕ → ℕ → ℕ → List ℕ → Option Mode → Spot
 gap_on p l b bs o = elim o [ None ↦ spot p l (b ∷ bs) | Some n ↦ gap n (p + 1) (line_after l b) bs ]
 
-pub gap_more : (m k : Mode) (p l : ℕ) (s : List ℕ) → p < length s → passed m (get_or s p 0) ≡ Some k → gap m p l (drop p s) ≡ gap k (p + 1) (line_after l (get_or s p 0)) (drop (p + 1) s)
-gap_more m k p l s h e = at_drop_more (gap m p l) s p 0 h ∙ ap (gap_on p l (get_or s p 0) (drop (p + 1) s)) e
-
-pub gap_stop : (m : Mode) (p l : ℕ) (s : List ℕ) → p < length s → passed m (get_or s p 0) ≡ None → gap m p l (drop p s) ≡ spot p l (drop p s)
-gap_stop m p l s h e = at_drop_more (gap m p l) s p 0 h ∙ ap (gap_on p l (get_or s p 0) (drop (p + 1) s)) e ∙ sym (at_drop_more (spot p l) s p 0 h)
-
-pub gap_end : (m : Mode) (p l : ℕ) (s : List ℕ) → length s ≤ p → gap m p l (drop p s) ≡ spot p l (drop p s)
-gap_end m p l s h = at_drop_all (gap m p l) s p h ∙ sym (at_drop_all (spot p l) s p h)
-
-some_none : {X : Type 0} (x : X) → Some x ≡ None → ⊥
-some_none x e = let z : ◌≡◌ {A = ℕ} 0 1 = cc in omega arith
-
 line_stop : (k : Class) (o : Option Mode) → in_line k o ≡ None → gap_class k ≡ false
-line_stop Blank o e = absurd (some_none Inside e)
-line_stop LineEnd o e = absurd (some_none Fresh e)
+line_stop Blank o e = cc
+line_stop LineEnd o e = cc
 line_stop Digit o e = refl
 line_stop Minus o e = refl
 line_stop Other o e = refl
 
 comment_stop : (k : Class) → in_comment k ≡ None → gap_class k ≡ false
-comment_stop Blank e = absurd (some_none Comment e)
-comment_stop LineEnd e = absurd (some_none Fresh e)
-comment_stop Digit e = absurd (some_none Comment e)
-comment_stop Minus e = absurd (some_none Comment e)
-comment_stop Other e = absurd (some_none Comment e)
+comment_stop Blank e = cc
+comment_stop LineEnd e = cc
+comment_stop Digit e = refl
+comment_stop Minus e = refl
+comment_stop Other e = refl
 
 -- where a gap stops, a word begins
 pub passed_stop : (m : Mode) (b : ℕ) → passed m b ≡ None → is_gap b ≡ false
@@ -136,45 +135,37 @@ left_took (other w p) rest e = refl
 left_took (bad f) rest e = refl
 left_took (end p) rest e = absurd (false≢true (sym e))
 
--- From a place p of the text s in line l, a gap leads to the place q in line k.
-module _ (m : Mode) (p l q k : ℕ) (s : List ℕ) (led : gap m p l (drop p s) ≡ spot q k (drop q s)) where
+-- From the place p of the text r in line l, a gap leads to the place q of the text s in line k.
+module _ (m : Mode) (p l q k : ℕ) (r s : List ℕ) (led : gap m p l (drop p r) ≡ spot q k (drop q s)) where
   -- there the text ends
-  pub end_next : length s ≤ q → shown (between m) p l (drop p s) ≡ end (position k q) ∷ []
-  end_next h = gap_shown m p l (drop p s) ∙ ap shown_at led ∙ at_drop_all (λ (x : List ℕ). shown_at (spot q k x)) s q h
+  pub end_next : length s ≤ q → shown (between m) p l (drop p r) ≡ end (position k q) ∷ []
+  end_next h = gap_shown m p l (drop p r) ∙ ap shown_at led ∙ at_drop_all (λ (x : List ℕ). shown_at (spot q k x)) s q h
 
-  pub end_again : (n : ℕ) → length s ≤ q → n ≡ run (take (length s - q) (drop q s)) → shown (between Inside) (q + n) k (drop (q + n) s) ≡ left_after (shown (between m) p l (drop p s))
-  end_again n h e =
-      let z : n ≡ 0 = e ∙ ap run (take_rest s q) ∙ run_end s q h in
-      let zero : q + n ≡ q = omega arith in
-      rw zero (at_drop_all (shown (between Inside) q k) s q h) ∙ ap left_after (sym (end_next h))
+  pub end_again : (n : Mode) → length s ≤ q → shown (between n) q k (drop q s) ≡ left_after (shown (between m) p l (drop p r))
+  end_again n h = at_drop_all (shown (between n) q k) s q h ∙ ap left_after (sym (end_next h))
 
-  -- there a word begins, of n bytes
-  module _ (n : ℕ) (more : q < length s) (stops : is_gap (get_or s q 0) ≡ false) (is : n ≡ run (take (length s - q) (drop q s))) where
-    abbrev part : List ℕ
-    part = take (n - 0) (take (length s - q) (drop q s))
+  -- there a word begins, of the bytes w
+  module _ (w : List ℕ) (more : q < length s) (stops : is_gap (get_or s q 0) ≡ false) (part : w ≡ take (run (drop q s)) (drop q s)) where
+    long : run (drop q s) ≡ suc (run (drop (q + 1) s))
+    long = run_more s q more stops ∙ add-one (run (drop (q + 1) s))
 
-    long : n ≡ run (drop (q + 1) s) + 1
-    long = is ∙ ap run (take_rest s q) ∙ run_more s q more stops
+    part_is : w ≡ get_or s q 0 ∷ take (run (drop (q + 1) s)) (drop (q + 1) s)
+    part_is = part ∙ ap (λ n. take n (drop q s)) long ∙ at_drop_more (take (suc (run (drop (q + 1) s)))) s q 0 more
 
-    part_is : part ≡ get_or s q 0 ∷ take (run (drop (q + 1) s)) (drop (q + 1) s)
-    part_is =
-        let z : n - 0 ≡ suc (run (drop (q + 1) s)) = omega (arith, long) in
-        rw (z, take_rest s q) (at_drop_more (take (suc (run (drop (q + 1) s)))) s q 0 more)
+    part_length : length w ≡ 1 + run (drop (q + 1) s)
+    part_length = omega (arith, ap length part, length-take {A = ℕ} (run (drop q s)) (drop q s), run_within (drop q s), long)
 
-    pub part_long : 0 < length part
-    part_long = omega (arith, ap length part_is)
-
-    word_next : shown (between m) p l (drop p s) ≡ word_seen part (position k q) ∷ shown (between Inside) (q + n) k (drop (q + n) s)
+    word_next : shown (between m) p l (drop p r) ≡ word_seen w (position k q) ∷ shown (between Inside) (q + length w) k (drop (q + length w) s)
     word_next =
-        let e : q + 1 + run (drop (q + 1) s) ≡ q + n = omega (arith, long) in
-        gap_shown m p l (drop p s) ∙ ap shown_at led ∙ at_drop_more (λ (x : List ℕ). shown_at (spot q k x)) s q 0 more
+        let e : q + 1 + run (drop (q + 1) s) ≡ q + length w = omega (arith, part_length) in
+        gap_shown m p l (drop p r) ∙ ap shown_at led ∙ at_drop_more (λ (x : List ℕ). shown_at (spot q k x)) s q 0 more
         ∙ word_shown (position k q) k (get_or s q 0 ∷ []) (q + 1) (drop (q + 1) s)
         ∙ ap (λ (x : List ℕ). word_seen (get_or s q 0 ∷ take (run (drop (q + 1) s)) (drop (q + 1) s)) (position k q) ∷ shown (between Inside) (q + 1 + run (drop (q + 1) s)) k x) (drop-drop (run (drop (q + 1) s)) (q + 1) s)
-        ∙ (rw e refl) ∙ ap (λ (w : List ℕ). word_seen w (position k q) ∷ shown (between Inside) (q + n) k (drop (q + n) s)) (sym part_is)
+        ∙ (rw e refl) ∙ ap (λ (v : List ℕ). word_seen v (position k q) ∷ shown (between Inside) (q + length w) k (drop (q + length w) s)) (sym part_is)
 
-    pub token_next : (t : Seen) → t ≡ word_seen part (position k q) → let rest = shown (between Inside) (q + n) k (drop (q + n) s) in let here = shown (between m) p l (drop p s) in (here ≡ took t rest) × (rest ≡ left_after here)
+    pub token_next : (t : Seen) → t ≡ word_seen w (position k q) → let rest = shown (between Inside) (q + length w) k (drop (q + length w) s) in let here = shown (between m) p l (drop p r) in (here ≡ took t rest) × (rest ≡ left_after here)
     token_next t e =
-        let rest = shown (between Inside) (q + n) k (drop (q + n) s) in
-        let g = word_goes part (position k q) rest in
+        let rest = shown (between Inside) (q + length w) k (drop (q + length w) s) in
+        let g = word_goes w (position k q) rest in
         let here = word_next ∙ sym g.0 ∙ ap (λ (x : Seen). took x rest) (sym e) in
         (here, left_took t rest (ap is_end e ∙ g.1) ∙ ap left_after (sym here))

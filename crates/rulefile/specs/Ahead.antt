@@ -5,4 +5,4 @@ use Rattle.rulefile.specs.Words.{Seen, shown, between}
 
 -- what the text still shows
 abbrev pub ahead : Reader → List Seen
-ahead r = shown (between r.mode) r.cursor r.line (drop r.cursor r.text.now)
+ahead r = shown (between r.mode) r.at.place r.at.line (drop r.at.place r.text.now)

@@ -13,11 +13,3 @@ is_digit b = nat_le 48 b && nat_le b 57
 -- blank, line feed, digit, minus, or another byte
 abbrev pub class_of : ℕ → Class
 class_of b = cond (is_blank b) Blank (cond (b == 10) LineEnd (cond (is_digit b) Digit (cond (b == 45) Minus Other)))
-
--- the sign by which the table has a class: `b`, `e`, `d`, `m` or `.`
-abbrev pub code : Class → ℕ
-code Blank = 98
-code LineEnd = 101
-code Digit = 100
-code Minus = 109
-code Other = 46

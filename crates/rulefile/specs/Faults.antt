@@ -1,5 +1,6 @@
 -- What a fault names: its number, its layer (1 words, 2 form, 3 books), its line and its place.
-use Rattle.std.specs.Prelude.{ℕ}
+use Rattle.std.specs.Prelude.{ℕ, List, ◌∷◌, ◌++◌}
+use Rattle.std.specs.Fmt.{decimal}
 use Rattle.rules.specs.Drafts.{number_of}
 use Rattle.rulefile.specs.declared.words.Position.{Position}
 use Rattle.rulefile.specs.declared.words.Misspelling.{Misspelling}
@@ -11,6 +12,9 @@ use Rattle.rulefile.specs.declared.faults.FormFault.{FormFault}
 use Rattle.rulefile.specs.declared.faults.FormFault.TheVariants as F
 use Rattle.rulefile.specs.declared.faults.BookFault.{BookFault}
 use Rattle.rulefile.specs.declared.faults.BookFault.TheVariants as B
+use Rattle.rulefile.specs.declared.faults.Layer.{Layer}
+use Rattle.rulefile.specs.declared.faults.Layer.TheVariants.{Words, Form, Books, Program}
+use Rattle.rulefile.specs.declared.faults.Fault.{Fault as Told}
 
 pub record Fault : Type 0 where
   pub number : ℕ
@@ -41,3 +45,18 @@ form_fault (F.Form k p) = fault (misfit_number k) 2 p
 abbrev pub book_fault : BookFault → Fault
 book_fault (B.Form f) = form_fault f
 book_fault (B.Book r p) = fault (number_of r) 3 p
+
+-- a program that reads rule files may find faults too, in a layer above
+abbrev pub layer_number : Layer → ℕ
+layer_number Words = 1
+layer_number Form = 2
+layer_number Books = 3
+layer_number Program = 4
+
+-- what is told of a fault
+abbrev pub named : Told → Fault
+named f = fault f.number (layer_number f.layer) f.at
+
+-- a fault in print: its numbers, with a space between each two
+abbrev pub fault_text : Fault → List ℕ
+fault_text f = decimal f.number ++ (32 ∷ (decimal f.layer ++ (32 ∷ (decimal f.line ++ (32 ∷ decimal f.place)))))

@@ -1,5 +1,5 @@
 -- The form of a rule file, word by word.
-use Rattle.std.specs.Prelude.{ℕ, Bool, true, false, cond, List, [], ◌∷◌, ℤ, pos, negsuc, Ok, Err, codes, Result, ◌==◌, nat_lt, unsigned_abs}
+use Rattle.std.specs.Prelude.{ℕ, Bool, true, false, cond, List, [], ◌∷◌, ℤ, pos, negsuc, Some, None, Ok, Err, codes, Option, Result, ◌==◌, nat_lt, unsigned_abs}
 use Rattle.std.specs.Str.{bytes_eq}
 use Rattle.rules.specs.Rows.{is_zero}
 use Rattle.rulefile.specs.declared.words.Position.{Position}
@@ -8,7 +8,6 @@ use Rattle.rulefile.specs.declared.faults.Misfit.TheVariants.{NotAllowed, TooLar
 use Rattle.rulefile.specs.declared.faults.FormFault.{FormFault}
 use Rattle.rulefile.specs.declared.faults.FormFault.TheVariants as F
 use Rattle.rulefile.specs.declared.form.Number.{Number}
-use Rattle.rulefile.specs.declared.form.Natural.{Natural}
 use Rattle.rulefile.specs.declared.form.Start.{Start}
 use Rattle.rulefile.specs.declared.form.Start.TheVariants as S
 use Rattle.rulefile.specs.Words.{Seen, number, other, bad, end, position, left_after}
@@ -31,7 +30,7 @@ abbrev pub nothing : {X : Type 0} → Result X FormFault
 nothing = misfit Ends (position 0 0)
 
 -- a number
-abbrev pub number_next : List Seen → Taken Number
+abbrev pub number_next : List Seen → Taken (Number ℤ)
 number_next [] = nothing
 number_next (number w z p ∷ ts) = Ok (record { value = z; at = p }, ts)
 number_next (other w p ∷ ts) = misfit NotAllowed p
@@ -43,19 +42,19 @@ negative (pos n) = false
 negative (negsuc n) = true
 
 -- a number without a minus
-abbrev pub plain : Taken Number → Taken Natural
+abbrev pub plain : Taken (Number ℤ) → Taken (Number ℕ)
 plain (Ok t) = cond (negative t.0.value) (misfit NotAllowed t.0.at) (Ok (record { value = unsigned_abs t.0.value; at = t.0.at }, t.1))
 plain (Err f) = Err f
 
-abbrev pub natural_next : List Seen → Taken Natural
+abbrev pub natural_next : List Seen → Taken (Number ℕ)
 natural_next ts = plain (number_next ts)
 
 -- a number without a minus, and at most so large
-abbrev pub limited : ℕ → Taken Natural → Taken Natural
+abbrev pub limited : ℕ → Taken (Number ℕ) → Taken (Number ℕ)
 limited most (Ok t) = cond (nat_lt most t.0.value) (misfit TooLarge t.0.at) (Ok t)
 limited most (Err f) = Err f
 
-abbrev pub count_next : ℕ → List Seen → Taken Natural
+abbrev pub count_next : ℕ → List Seen → Taken (Number ℕ)
 count_next most ts = limited most (natural_next ts)
 
 -- this word
@@ -72,7 +71,7 @@ and_then (Ok t) next = next t.1
 and_then (Err f) next = Err f
 
 -- the words `p` and `cnf` and the number of variables, at most 1,000
-abbrev pub opening : List Seen → Taken Natural
+abbrev pub opening : List Seen → Taken (Number ℕ)
 opening ts = and_then (word_next (codes "p") ts) (λ rest. and_then (word_next (codes "cnf") rest) (count_next 1000))
 
 -- what is left after it, or after the word that is not as it should be
@@ -83,12 +82,12 @@ opening_left ts = elim (word_next (codes "p") ts) [
 ]
 
 -- What begins between rules, where n clauses are left to come: a clause, a group by the word `a`, or nothing at the text's end.
-abbrev pub start_next : ℕ → List Seen → Taken Start
+abbrev pub start_next : ℕ → List Seen → Taken (Option Start)
 start_next n [] = nothing
-start_next n (number w z p ∷ ts) = cond (n == 0) (misfit Count p) (Ok (S.Clause (record { value = z; at = p }), ts))
-start_next n (other w p ∷ ts) = cond (bytes_eq w (codes "a")) (Ok (S.Group p, ts)) (misfit NotAllowed p)
+start_next n (number w z p ∷ ts) = cond (n == 0) (misfit Count p) (Ok (Some (S.Clause (record { value = z; at = p })), ts))
+start_next n (other w p ∷ ts) = cond (bytes_eq w (codes "a")) (Ok (Some (S.Group p), ts)) (misfit NotAllowed p)
 start_next n (bad f ∷ ts) = Err (F.Word f)
-start_next n (end p ∷ ts) = cond (n == 0) (Ok (S.Nothing, end p ∷ ts)) (misfit Count p)
+start_next n (end p ∷ ts) = cond (n == 0) (Ok (None, end p ∷ ts)) (misfit Count p)
 
 -- Literals, up to the 0 that ends them.
 abbrev pub with_literal : ℤ → Taken (List ℤ) → Taken (List ℤ)

@@ -14,7 +14,7 @@ use Rattle.rulefile.specs.declared.faults.FormFault.TheVariants as F
 use Rattle.rulefile.specs.declared.faults.BookFault.{BookFault}
 use Rattle.rulefile.specs.declared.faults.BookFault.TheVariants as B
 use Rattle.rulefile.specs.Words.{Seen, number, other, bad, end, position}
-use Rattle.rulefile.specs.declared.form.Natural.{Natural}
+use Rattle.rulefile.specs.declared.form.Number.{Number}
 use Rattle.rulefile.specs.Form.{Taken, negative, literals_next, count_next, opening}
 
 -- RULES
@@ -91,7 +91,7 @@ filled b (rule r p rest) = elim (answer b r) [ Ok _ ↦ filled (with_rule b r) r
 -- FILES
 
 -- A file from its number of clauses on, into these books.
-abbrev pub counted : Books → Taken Natural → Result Books BookFault
+abbrev pub counted : Books → Taken (Number ℕ) → Result Books BookFault
 counted b (Ok t) = filled b (rules_in t.0.value between t.1)
 counted b (Err f) = Err (B.Form f)
 
@@ -103,7 +103,7 @@ abbrev pub rest_outcome : ℕ → ℕ → ℕ → List Seen → Result Books Boo
 rest_outcome c g n ts = body (fresh n c g) ts
 
 -- A whole file.
-abbrev pub opened : ℕ → ℕ → Taken Natural → Result Books BookFault
+abbrev pub opened : ℕ → ℕ → Taken (Number ℕ) → Result Books BookFault
 opened c g (Ok t) = rest_outcome c g t.0.value t.1
 opened c g (Err f) = Err (B.Form f)
 
@@ -123,9 +123,9 @@ pub record SameSizes (c c' : ClauseBook) (g g' : GroupBook) : Type 0 where
 -- Books that are given up: they have no variable and no rule, and all their words are 0.
 pub record GivenUp (c c' : ClauseBook) (g g' : GroupBook) : Type 0 where
   pub clauses : C.filling c' ≡ C.empty 0 (C.filling c).size
-  pub clause_words : c'.words.now ≡ replicate (length c.words.now) (pos 0)
+  pub clause_words : c'.buffer.words.now ≡ replicate (length c.buffer.words.now) (pos 0)
   pub groups : G.filling g' ≡ G.empty 0 (G.filling g).size
-  pub group_words : g'.words.now ≡ replicate (length g.words.now) (pos 0)
+  pub group_words : g'.buffer.words.now ≡ replicate (length g.buffer.words.now) (pos 0)
 
 -- where the reading failed
 abbrev pub failed : {X E : Type 0} → Result X E → Type 0 → Type 0
@@ -157,6 +157,6 @@ abbrev pub group_rule : G.Filling → ℕ → Position → Taken (List ℤ) → 
 group_rule b k p ls = rule_read (G.answer_to b) (λ ls. G.settled b (G.group_of k ls) (Ok tt)) p ls
 
 -- a group from its limit on
-abbrev pub group_read : G.Filling → Position → Taken Natural → Result (G.Filling × List Seen) BookFault
+abbrev pub group_read : G.Filling → Position → Taken (Number ℕ) → Result (G.Filling × List Seen) BookFault
 group_read b p (Ok t) = group_rule b t.0.value p (literals_next t.1)
 group_read b p (Err f) = Err (B.Form f)

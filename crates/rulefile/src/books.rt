@@ -6,74 +6,46 @@ ghost use Rattle.rulefile.specs.Ahead.{ahead};
 ghost use Rattle.rulefile.specs.Form.{natural_next, literals_from};
 ghost use Rattle.rulefile.specs.Words.{seen_in};
 ghost use Rattle.rulefile.specs.Grammar.{Judged};
-ghost use Rattle.rulefile.specs.Outcomes.{rules_in, between, books, filled, body, rest_outcome, outcome, told, failed, SameSizes, GivenUp, pushes, placed, clause_read, group_read};
+ghost use Rattle.rulefile.specs.Outcomes.{rules_in, between, books, filled, body, rest_outcome, outcome, told, failed, SameSizes, GivenUp, pushes, clause_read, group_read};
 
 use crate::faults::{BookFault, FormFault};
-use crate::form::reading::{
-    ends, next_natural, next_number, next_start, read_count, read_variables,
-};
+use crate::form::reading::{next_natural, next_number, next_start, read_count, read_variables};
 use crate::form::{Number, Start};
 use crate::words::{Position, Reader};
+use rules::book::Book;
 use rules::clauses::ClauseBook;
 use rules::groups::GroupBook;
-use rules::refusal::Refusal;
 
-/// Pushes the literals of a clause from its first number on, up to the 0 that ends it.
-fn push_clause(
+/// Pushes the literals of a rule from its first number on, up to the 0 that ends it.
+fn push_literals<B: Book>(
     reader: &mut Reader<'_>,
-    book: &mut ClauseBook<'_>,
-    first: Number,
+    book: &mut B,
+    first: Number<i32>,
 ) -> Result<(), FormFault>
-    ensures pushed { pushes clausebook.pushed (clausebook.filling book.old) (literals_from first.value (ahead reader.old)) ≡ told result (clausebook.filling book.new, ahead reader.new) }
-    ensures sized { (clausebook.filling book.new).size ≡ (clausebook.filling book.old).size }
+    ensures pushed { pushes B.pushed (B.filling book.old) (literals_from first.value (ahead reader.old)) ≡ told result (B.filling book.new, ahead reader.new) }
+    ensures sized { B.size (B.filling book.new) ≡ B.size (B.filling book.old) }
 {
     let mut number = first;
-    while !ends(number.value) {
+    while number.value != 0 {
         book.push(number.value);
         number = next_number(reader)?;
     }
     Ok(())
-}
-
-/// Pushes the literals of a group from its first number on, up to the 0 that ends it.
-fn push_group(
-    reader: &mut Reader<'_>,
-    book: &mut GroupBook<'_>,
-    first: Number,
-) -> Result<(), FormFault>
-    ensures pushed { pushes groupbook.pushed (groupbook.filling book.old) (literals_from first.value (ahead reader.old)) ≡ told result (groupbook.filling book.new, ahead reader.new) }
-    ensures sized { (groupbook.filling book.new).size ≡ (groupbook.filling book.old).size }
-{
-    let mut number = first;
-    while !ends(number.value) {
-        book.push(number.value);
-        number = next_number(reader)?;
-    }
-    Ok(())
-}
-
-/// A book's answer to the rule that begins at the position.
-fn placed(answer: Result<(), Refusal>, at: Position) -> Result<(), BookFault>
-    ensures { result ≡ placed answer at }
-{
-    match answer {
-        Ok(()) => Ok(()),
-        Err(refusal) => Err(BookFault::Book(refusal, at)),
-    }
 }
 
 /// A clause, from its first number on.
 fn read_clause(
     reader: &mut Reader<'_>,
     book: &mut ClauseBook<'_>,
-    first: Number,
+    first: Number<i32>,
 ) -> Result<(), BookFault>
     requires { clausebook.clean (clausebook.filling book.old) ≡ clausebook.filling book.old }
     ensures read { clause_read (clausebook.filling book.old) first.at (literals_from first.value (ahead reader.old)) ≡ told result (clausebook.filling book.new, ahead reader.new) }
     ensures sized { (clausebook.filling book.new).size ≡ (clausebook.filling book.old).size }
 {
-    push_clause(reader, book, first)?;
-    placed(book.end(), first.at)
+    push_literals(reader, book, first)?;
+    book.end()
+        .map_err(|refusal| BookFault::Book(refusal, first.at))
 }
 
 /// A group, from its limit on; its `a` stands at the position.
@@ -88,48 +60,50 @@ fn read_group(
 {
     let limit = next_natural(reader)?;
     let first = next_number(reader)?;
-    push_group(reader, book, first)?;
-    placed(book.end(limit.value), at)
+    push_literals(reader, book, first)?;
+    book.end(limit.value)
+        .map_err(|refusal| BookFault::Book(refusal, at))
 }
 
-/// The rules of a file that has `count` clauses.
-fn read_rules(
-    reader: &mut Reader<'_>,
-    clauses: &mut ClauseBook<'_>,
-    groups: &mut GroupBook<'_>,
-    count: u32,
-) -> Result<(), BookFault>
-    requires clauses { clausebook.clean (clausebook.filling clauses.old) ≡ clausebook.filling clauses.old }
-    requires groups { groupbook.clean (groupbook.filling groups.old) ≡ groupbook.filling groups.old }
-    ensures read { filled (books clauses.old groups.old) (rules_in count between (ahead reader.old)) ≡ told result (books clauses.new groups.new) }
-    ensures sized { SameSizes clauses.old clauses.new groups.old groups.new }
-{
-    let mut left = count;
-    loop {
-        match next_start(reader, left)? {
-            Start::Clause(first) => {
-                left -= 1;
-                read_clause(reader, clauses, first)?;
+/// The two books that a file fills.
+#[derive(Drop)]
+struct Books<'a, 'c, 'g> {
+    clauses: &'a mut ClauseBook<'c>,
+    groups: &'a mut GroupBook<'g>,
+}
+
+impl Books<'_, '_, '_> {
+    /// The rules of a file that has `count` clauses.
+    fn read_rules(self, reader: &mut Reader<'_>, count: u32) -> Result<(), BookFault>
+        requires clauses { clausebook.clean (clausebook.filling self.clauses.now) ≡ clausebook.filling self.clauses.now }
+        requires groups { groupbook.clean (groupbook.filling self.groups.now) ≡ groupbook.filling self.groups.now }
+        ensures read { filled (books self.entry.clauses.now self.entry.groups.now) (rules_in count between (ahead reader.old)) ≡ told result (books self.exit.0.now self.exit.1.0.now) }
+        ensures sized { SameSizes self.entry.clauses.now self.exit.0.now self.entry.groups.now self.exit.1.0.now }
+    {
+        let Books { clauses, groups } = self;
+        let mut left = count;
+        while let Some(start) = next_start(reader, left)? {
+            match start {
+                Start::Clause(first) => {
+                    left -= 1;
+                    read_clause(reader, clauses, first)?;
+                }
+                Start::Group(at) => read_group(reader, groups, at)?,
             }
-            Start::Group(at) => read_group(reader, groups, at)?,
-            Start::Nothing => return Ok(()),
         }
+        Ok(())
     }
-}
 
-/// The number of clauses, and the rules.
-fn read_body(
-    reader: &mut Reader<'_>,
-    clauses: &mut ClauseBook<'_>,
-    groups: &mut GroupBook<'_>,
-) -> Result<(), BookFault>
-    requires clauses { clausebook.clean (clausebook.filling clauses.old) ≡ clausebook.filling clauses.old }
-    requires groups { groupbook.clean (groupbook.filling groups.old) ≡ groupbook.filling groups.old }
-    ensures read { body (books clauses.old groups.old) (ahead reader.old) ≡ told result (books clauses.new groups.new) }
-    ensures sized { SameSizes clauses.old clauses.new groups.old groups.new }
-{
-    let count = read_count(reader)?;
-    read_rules(reader, clauses, groups, count.value)
+    /// The number of clauses, and the rules.
+    fn read_body(self, reader: &mut Reader<'_>) -> Result<(), BookFault>
+        requires clauses { clausebook.clean (clausebook.filling self.clauses.now) ≡ clausebook.filling self.clauses.now }
+        requires groups { groupbook.clean (groupbook.filling self.groups.now) ≡ groupbook.filling self.groups.now }
+        ensures read { body (books self.entry.clauses.now self.entry.groups.now) (ahead reader.old) ≡ told result (books self.exit.0.now self.exit.1.0.now) }
+        ensures sized { SameSizes self.entry.clauses.now self.exit.0.now self.entry.groups.now self.exit.1.0.now }
+    {
+        let count = read_count(reader)?;
+        self.read_rules(reader, count.value)
+    }
 }
 
 /// Reads a file from its number of clauses on into the books, which it empties first; the file has so many variables.
@@ -145,8 +119,8 @@ pub fn read_rest(
 {
     clauses.reset(variables);
     groups.reset(variables);
-    let read = read_body(&mut reader, clauses, groups);
-    if let Err(_) = read {
+    let read = Books { clauses, groups }.read_body(&mut reader);
+    if read.is_err() {
         clauses.reset(0);
         groups.reset(0);
     }

@@ -1,6 +1,6 @@
 //! Classes of bytes.
 ghost use Rattle.std.specs.Prelude.{◌≡◌};
-ghost use Rattle.rulefile.specs.Bytes.{class_of, code};
+ghost use Rattle.rulefile.specs.Bytes.{class_of};
 
 /// What a byte is in a rule file.
 #[derive(Clone, Copy)]
@@ -17,41 +17,25 @@ pub enum Class {
     Other,
 }
 
-/// The class of each byte, sixteen to a row: `b` blank, `e` line end, `d` digit, `m` minus, `.` other.
-const CODES: &[u8; 256] = b"\
-    .........be..b..\
-    ................\
-    b............m..\
-    dddddddddd......\
-    ................\
-    ................\
-    ................\
-    ................\
-    ................\
-    ................\
-    ................\
-    ................\
-    ................\
-    ................\
-    ................\
-    ................";
+// Each class by the first letter of its name.
+use Class::{Blank as B, Digit as D, LineEnd as L, Minus as M, Other as O};
 
-/// The sign of a byte's class.
-fn code_of(byte: u8) -> u8
-    ensures { result ≡ code (class_of byte) }
-{
-    CODES[byte as usize]
-}
+/// The class of each byte, thirty-two to a row.
+// A const would be built anew at each look-up, and take several times as long to check.
+static CLASSES: [Class; 256] = [
+    O, O, O, O, O, O, O, O, O, B, L, O, O, B, O, O, O, O, O, O, O, O, O, O, O, O, O, O, O, O, O, O,
+    B, O, O, O, O, O, O, O, O, O, O, O, O, M, O, O, D, D, D, D, D, D, D, D, D, D, O, O, O, O, O, O,
+    O, O, O, O, O, O, O, O, O, O, O, O, O, O, O, O, O, O, O, O, O, O, O, O, O, O, O, O, O, O, O, O,
+    O, O, O, O, O, O, O, O, O, O, O, O, O, O, O, O, O, O, O, O, O, O, O, O, O, O, O, O, O, O, O, O,
+    O, O, O, O, O, O, O, O, O, O, O, O, O, O, O, O, O, O, O, O, O, O, O, O, O, O, O, O, O, O, O, O,
+    O, O, O, O, O, O, O, O, O, O, O, O, O, O, O, O, O, O, O, O, O, O, O, O, O, O, O, O, O, O, O, O,
+    O, O, O, O, O, O, O, O, O, O, O, O, O, O, O, O, O, O, O, O, O, O, O, O, O, O, O, O, O, O, O, O,
+    O, O, O, O, O, O, O, O, O, O, O, O, O, O, O, O, O, O, O, O, O, O, O, O, O, O, O, O, O, O, O, O,
+];
 
 /// The class of a byte.
 pub fn class_of(byte: u8) -> Class
     ensures { result ≡ class_of byte }
 {
-    match code_of(byte) {
-        b'b' => Class::Blank,
-        b'e' => Class::LineEnd,
-        b'd' => Class::Digit,
-        b'm' => Class::Minus,
-        _ => Class::Other,
-    }
+    CLASSES[byte as usize]
 }

@@ -1,18 +1,12 @@
 //! Faults of a rule file. Each layer has its own, and carries the one below it whole.
-ghost use Rattle.std.specs.Prelude.{◌≡◌};
-ghost use Rattle.rulefile.specs.Faults.{word_fault, form_fault, book_fault, misspelling_number, misfit_number};
+ghost use Rattle.std.specs.Prelude.{◌≡◌, Some};
+ghost use Rattle.rulefile.specs.Faults.{word_fault, form_fault, book_fault, misspelling_number, misfit_number, layer_number, named, fault_text};
 ghost use Rattle.rulefile.specs.declared.faults.FormFault.TheVariants as form;
 ghost use Rattle.rulefile.specs.declared.faults.BookFault.TheVariants as book;
 
 use crate::words::{Misspelling, Position, WordFault};
 use rules::refusal::Refusal;
-
-/// The layers, from below.
-const WORDS: u8 = 1;
-
-const FORM: u8 = 2;
-
-const BOOKS: u8 = 3;
+use std::fmt;
 
 /// How a word, or the text's end, does not fit the form.
 #[derive(Clone, Copy, PartialEq, Eq, Debug)]
@@ -57,134 +51,102 @@ impl From<FormFault> for BookFault {
     }
 }
 
-impl Misspelling {
-    /// The number by which it is known.
-    pub fn number(self) -> u8
-        ensures { result ≡ misspelling_number self }
-    {
-        self as u8
+/// The layers, from below.
+#[derive(Clone, Copy, PartialEq, Eq, Debug)]
+pub enum Layer {
+    Words = 1,
+    Form = 2,
+    Books = 3,
+    /// A program that reads rule files.
+    Program = 4,
+}
+
+/// What is told of a fault: its number, the layer that found it, and where it stands.
+#[derive(Clone, Copy, PartialEq, Eq, Debug)]
+pub struct Fault {
+    pub number: u8,
+    pub layer: Layer,
+    pub at: Position,
+}
+
+impl From<Misspelling> for u8 {
+    ghost from_gives = { λ kind number. number ≡ misspelling_number kind };
+
+    fn from(kind: Misspelling) -> u8 {
+        kind as u8
     }
 }
 
-impl Misfit {
-    /// The number by which it is known.
-    pub fn number(self) -> u8
-        ensures { result ≡ misfit_number self }
-    {
-        self as u8
+impl From<Misfit> for u8 {
+    ghost from_gives = { λ kind number. number ≡ misfit_number kind };
+
+    fn from(kind: Misfit) -> u8 {
+        kind as u8
     }
 }
 
-impl WordFault {
-    /// The fault's number.
-    pub fn number(self) -> u8
-        ensures { result ≡ (word_fault self).number }
-    {
-        self.kind.number()
-    }
+impl From<Layer> for u8 {
+    ghost from_gives = { λ layer number. number ≡ layer_number layer };
 
-    /// The layer that found the fault.
-    pub fn layer(self) -> u8
-        ensures { result ≡ (word_fault self).layer }
-    {
-        WORDS
-    }
-
-    /// The fault's line, from 1.
-    pub fn line(self) -> usize
-        ensures { result ≡ (word_fault self).line }
-    {
-        self.at.line
-    }
-
-    /// The fault's place in the text, from 0.
-    pub fn place(self) -> usize
-        ensures { result ≡ (word_fault self).place }
-    {
-        self.at.place
+    fn from(layer: Layer) -> u8 {
+        layer as u8
     }
 }
 
-impl FormFault {
-    /// The fault's number.
-    pub fn number(self) -> u8
-        ensures { result ≡ (form_fault self).number }
-    {
-        match self {
-            FormFault::Word(fault) => fault.number(),
-            FormFault::Form(kind, _) => kind.number(),
-        }
-    }
+impl From<WordFault> for Fault {
+    ghost from_gives = { λ f r. named r ≡ word_fault f };
 
-    /// The layer that found the fault.
-    pub fn layer(self) -> u8
-        ensures { result ≡ (form_fault self).layer }
-    {
-        match self {
-            FormFault::Word(fault) => fault.layer(),
-            FormFault::Form(_, _) => FORM,
-        }
-    }
-
-    /// The fault's line, from 1.
-    pub fn line(self) -> usize
-        ensures { result ≡ (form_fault self).line }
-    {
-        match self {
-            FormFault::Word(fault) => fault.line(),
-            FormFault::Form(_, at) => at.line,
-        }
-    }
-
-    /// The fault's place in the text, from 0.
-    pub fn place(self) -> usize
-        ensures { result ≡ (form_fault self).place }
-    {
-        match self {
-            FormFault::Word(fault) => fault.place(),
-            FormFault::Form(_, at) => at.place,
+    fn from(word: WordFault) -> Fault {
+        Fault {
+            number: word.kind.into(),
+            layer: Layer::Words,
+            at: word.at,
         }
     }
 }
 
-impl BookFault {
-    /// The fault's number.
-    pub fn number(self) -> u8
-        ensures { result ≡ (book_fault self).number }
-    {
-        match self {
-            BookFault::Form(fault) => fault.number(),
-            BookFault::Book(refusal, _) => refusal.number(),
+impl From<FormFault> for Fault {
+    ghost from_gives = { λ f r. named r ≡ form_fault f };
+
+    fn from(form: FormFault) -> Fault {
+        match form {
+            FormFault::Word(fault) => fault.into(),
+            FormFault::Form(kind, at) => Fault {
+                number: kind.into(),
+                layer: Layer::Form,
+                at,
+            },
         }
     }
+}
 
-    /// The layer that found the fault.
-    pub fn layer(self) -> u8
-        ensures { result ≡ (book_fault self).layer }
-    {
-        match self {
-            BookFault::Form(fault) => fault.layer(),
-            BookFault::Book(_, _) => BOOKS,
+impl From<BookFault> for Fault {
+    ghost from_gives = { λ f r. named r ≡ book_fault f };
+
+    fn from(book: BookFault) -> Fault {
+        match book {
+            BookFault::Form(fault) => fault.into(),
+            BookFault::Book(refusal, at) => Fault {
+                number: refusal.into(),
+                layer: Layer::Books,
+                at,
+            },
         }
     }
+}
 
-    /// The fault's line, from 1.
-    pub fn line(self) -> usize
-        ensures { result ≡ (book_fault self).line }
-    {
-        match self {
-            BookFault::Form(fault) => fault.line(),
-            BookFault::Book(_, at) => at.line,
-        }
-    }
+/// Prints number, layer, line and place, with a space between each two.
+impl fmt::Display for Fault {
+    ghost output = { λ f. Some (fault_text (named f)) };
 
-    /// The fault's place in the text, from 0.
-    pub fn place(self) -> usize
-        ensures { result ≡ (book_fault self).place }
-    {
-        match self {
-            BookFault::Form(fault) => fault.place(),
-            BookFault::Book(_, at) => at.place,
-        }
+    fn fmt<W: fmt::Write>(&self, f: &mut fmt::Formatter<W>) -> fmt::Result {
+        write!(
+            f,
+            "{} {} {} {}",
+            self.number,
+            u8::from(self.layer),
+            self.at.line,
+            self.at.place
+        )
     }
 }

@@ -4,17 +4,10 @@ pub(crate) mod reading;
 pub use crate::form::reading::read_variables;
 use crate::words::Position;
 
-/// A number of the text.
+/// A number of the text, and where it stands.
 #[derive(Clone, Copy)]
-pub(crate) struct Number {
-    pub value: i32,
-    pub at: Position,
-}
-
-/// A number of the text that is not negative.
-#[derive(Clone, Copy)]
-pub struct Natural {
-    pub value: u32,
+pub struct Number<T> {
+    pub value: T,
     pub at: Position,
 }
 
@@ -22,9 +15,7 @@ pub struct Natural {
 #[derive(Clone, Copy)]
 pub(crate) enum Start {
     /// A clause, with its first number.
-    Clause(Number),
+    Clause(Number<i32>),
     /// A group, with the position of its `a`.
     Group(Position),
-    /// Nothing: the text ends.
-    Nothing,
 }

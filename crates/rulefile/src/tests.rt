@@ -1,5 +1,6 @@
 //! Rule files on examples.
 use crate::books::read;
+use crate::faults::Fault;
 use rules::clauses::ClauseBook;
 use rules::groups::GroupBook;
 use std::test::Fail;
@@ -12,12 +13,10 @@ fn fault(text: &[u8]) -> [usize; 4] {
     let mut groups = GroupBook::open(&mut group_words, 0);
     match read(text, &mut clauses, &mut groups) {
         Ok(()) => [0; 4],
-        Err(fault) => [
-            fault.number() as usize,
-            fault.layer() as usize,
-            fault.line(),
-            fault.place(),
-        ],
+        Err(fault) => {
+            let Fault { number, layer, at } = fault.into();
+            [number as usize, layer as usize, at.line, at.place]
+        }
     }
 }
 

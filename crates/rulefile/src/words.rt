@@ -60,9 +60,8 @@ pub enum Mode {
 #[derive(Drop)]
 pub struct Reader<'a> {
     text: &'a [u8],
-    cursor: usize,
-    line: usize,
+    at: Position,
     mode: Mode,
-    ghost inside: { cursor ≤ length text.now },
-    ghost counted: { line ≤ cursor + 1 },
+    ghost inside: { at.place ≤ length text.now },
+    ghost counted: { at.line ≤ at.place + 1 },
 }

@@ -1,16 +1,8 @@
 -- Laws of answers.
-use Rattle.std.proofs.Common.{◌≡◌, Bool, true, false, cond, List, [], ◌∷◌, ℤ, All, refl, ap, ◌∙◌, subst}
+use Rattle.std.proofs.Common.{◌≡◌, Bool, true, false, cond, List, [], ◌∷◌, ℤ, All, refl, ap, ◌∙◌}
 use Rattle.std.proofs.lemmas.List.Elements.{All-nil, All-cons, All-head, All-tail}
 use Rattle.std.proofs.lemmas.Bool.{cond_both, cond-true, cond-false}
 use Rattle.rules.specs.Sources.{Answer, Answer.silent, Answer.tells, tell_first, or_else}
-
--- what is told has the property
-abbrev pub Telling : (List ℤ → Type 0) → Answer → Type 0
-Telling P silent = Unit {0}
-Telling P (tells C) = P C
-
-pub tells_apart : (C : List ℤ) → tells C ≡ silent → ⊥
-tells_apart C e = subst (λ a. Telling (λ _. ⊥) a → ⊥) e (λ z. z) tt
 
 -- what holds of the clause of each that passes, and of the other answer if none does, holds of what the first tells
 pub tell_first_both : {A : Type 0} (p : A → Bool) (clause : A → List ℤ) (xs : List A) (otherwise : Answer) (P : Answer → Type 0)
@@ -20,14 +12,6 @@ tell_first_both {A = A} p clause (x ∷ xs) otherwise P some none =
     let told : A → Type 0 = λ y. p y ≡ true → P (tells (clause y)) in
     cond_both (p x) (tells (clause x)) (tell_first p clause xs otherwise) P (All-head told x xs some)
     (λ e. tell_first_both p clause xs otherwise P (All-tail told x xs some) (λ h. none (All-cons (λ y. p y ≡ false) x xs e h)))
-
-pub or_else_both : (a b : Answer) (P : Answer → Type 0) → ((C : List ℤ) → a ≡ tells C → P (tells C)) → (a ≡ silent → P b) → P (or_else a b)
-or_else_both silent b P told quiet = quiet refl
-or_else_both (tells C) b P told quiet = told C refl
-
-pub or_silent : (a : Answer) → a ≡ or_else a silent
-or_silent silent = refl
-or_silent (tells C) = refl
 
 -- Going over rules for the first that passes `p`, or else the first that passes `q`, each with its clause.
 module _ {A : Type 0} (p : A → Bool) (p-clause : A → List ℤ) (q : A → Bool) (q-clause : A → List ℤ) where

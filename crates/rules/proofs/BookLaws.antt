@@ -5,7 +5,8 @@ use Rattle.std.proofs.lemmas.List.Elements.{All-contains, All-contains_itself, A
 use Rattle.std.proofs.lemmas.Bool.{both_ways}
 use Rattle.rules.specs.Sources.{assignment, true_in, Full, Answer, Answer.silent, Answer.tells, Meaning, ToldClause, LawfulAt, tell_first}
 use Rattle.rules.proofs.Lists.{all_passes}
-use Rattle.rules.proofs.AnswerLaws.{Telling, tells_apart, tell_first_both}
+use Rattle.rules.specs.SourceLaws.{Telling, tells_apart}
+use Rattle.rules.proofs.AnswerLaws.{tell_first_both}
 
 -- A kind of rule: whether an assignment keeps a rule, and two tests of it under a valuation, each with the clause to tell where it passes.
 pub record Kind (A : Type 0) : Type 0 where

@@ -1,27 +1,22 @@
 -- A clause book while it is filled: what keeps it as it should be, and that a clause pushed literal by literal is the whole clause.
-use Rattle.std.proofs.Common.{◌≡◌, ℕ, ◌+◌, ◌-◌, ◌<◌, ◌≤◌, Bool, true, false, cond, not, ◌&&◌, ltb, leb, List, [], ◌∷◌, ◌++◌, length, take, set, replicate, ℤ, pos, Some, None, Ok, Err, fold, Option, sym, refl, ap, ◌∙◌, subst, inl, inr, arith}
+use Rattle.std.proofs.Common.{◌≡◌, ℕ, ◌+◌, ◌≤◌, Bool, true, false, cond, not, ◌&&◌, ltb, leb, List, [], ◌∷◌, ◌++◌, length, ℤ, Some, None, Ok, Err, fold, Option, sym, refl, ap, ◌∙◌, subst, inl, inr, arith}
 use mathlib.Core.Bool.{false≢true}
 use Rattle.std.specs.List.{list_all}
 use Rattle.std.proofs.lemmas.List.{length_push}
-use Rattle.std.proofs.lemmas.Bool.{cond_both, cases_Bool, and_parts, and_from, or_parts, or_from, or_left, not-true, not_from_false, le-leb, leb-false, ltb-false, cond-true, cond-false}
+use Rattle.std.proofs.lemmas.Bool.{cond_both, cases_Bool, and_parts, and_from, or_parts, or_from, or_left, not-true, not_from_false, le-leb, ltb-false, cond-true, cond-false}
 use Rattle.rules.specs.Literals.{same, in_range, has}
 use Rattle.rules.specs.Books.{no_repeat, clause_fits}
-use Rattle.rules.specs.Rows.{rows, words_of, spelled, Kept}
+use Rattle.rules.specs.Rows.{words_of}
+use Rattle.rules.specs.RowBuffers.{Content}
+use Rattle.rules.specs.RowBuffers as B
 use Rattle.rules.specs.Drafts.{unless, Reply, reply}
 use Rattle.rules.specs.declared.refusal.Refusal.{Refusal}
 use Rattle.rules.specs.declared.refusal.Refusal.TheVariants.{NoVariable, NoRoom}
-use Rattle.rules.specs.declared.clauses.ClauseBook.{ClauseBook}
-use Rattle.rules.specs.ClauseFilling.{Filling, filling, all_words, writing, clean, faulted, extended, written, noted, pushed, no_place, ending, settled, once_after, once, answer_to}
+use Rattle.rules.specs.ClauseFilling.{Filling, clauses_of, writing, clean, faulted, extended, written, noted, pushed, no_place, ending, settled, once_after, once, answer_to}
 use Rattle.rules.proofs.Literals.{has_push, same_true, eq_same}
-use Rattle.rules.proofs.RowLaws.{none_zero, pass_push, ranged_words, draft_long, kept_pushed, kept_ended, kept_words, kept_spelled}
-use Rattle.rules.proofs.DraftLaws.{reply_ok, whole_rule}
-
--- fillings with the same parts are the same
-abbrev parts : ℕ → ℕ → List (List ℤ) → List ℤ → Option Refusal → Filling
-parts v s cs d f = record { variables = v; size = s; clauses = cs; draft = d; fault = f }
-
-pub same_parts : {v v' s s' : ℕ} {cs cs' : List (List ℤ)} {d d' : List ℤ} {f f' : Option Refusal} → v ≡ v' → s ≡ s' → cs ≡ cs' → d ≡ d' → f ≡ f' → parts v s cs d f ≡ parts v' s' cs' d' f'
-same_parts a b c e g = cc
+use Rattle.rules.proofs.RowLaws.{pass_push}
+use Rattle.rules.proofs.RowBuffers.{pushed_both}
+use Rattle.rules.proofs.DraftLaws.{whole_rule}
 
 no_repeat_push : (ls : List ℤ) (l : ℤ) → no_repeat ls ≡ true → has ls l ≡ false → no_repeat (ls ++ (l ∷ [])) ≡ true
 no_repeat_push [] l h e = refl
@@ -45,46 +40,31 @@ fits_push n ls l h r e =
     let q = and_parts (list_all (in_range n) ls) (no_repeat ls) h in
     and_from (list_all (in_range n) (ls ++ (l ∷ []))) (no_repeat (ls ++ (l ∷ []))) (pass_push (in_range n) ls l q.0 r) (no_repeat_push ls l q.1 e)
 
-fits_words : (n : ℕ) (ls : List ℤ) → clause_fits n ls ≡ true → none_zero ls ≡ true
-fits_words n ls h = ranged_words n ls (and_parts (list_all (in_range n) ls) (no_repeat ls) h).0
+-- A LITERAL PUSHED
 
--- A BOOK
+-- what a book of k clauses keeps
+abbrev pub Kept : ℕ → Content → Type 0
+Kept k b = (list_all (clause_fits b.variables) b.standing ≡ true) × (unless b.fault (clause_fits b.variables) b.draft ≡ true) × (k ≡ length b.standing)
 
-module _ (b : ClauseBook) where
-  abbrev fits : List ℤ → Bool
-  fits = clause_fits b.variables
+-- a new literal in range, as a word of the rows
+pub kept_pushed : (k : ℕ) (b : Content) (l : ℤ) → Kept k b → in_range b.variables l ≡ true → has b.draft l ≡ false → Kept k (B.pushed b l)
+kept_pushed k b l h r e =
+    let fits = clause_fits b.variables in
+    pushed_both b l (Kept k) (λ _ _. h)
+    (λ f. (h.0, subst (λ x. unless x fits (b.draft ++ (l ∷ [])) ≡ true) (sym f) (fits_push b.variables b.draft l (subst (λ x. unless x fits b.draft ≡ true) f h.1) r e), h.2))
+    (h.0, refl, h.2)
 
-  abbrev drafts : List ℤ → Bool
-  drafts = unless b.fault fits
-
-  -- where the clause that is being written ends
-  pub book_end : words_of (filling b).clauses + length (filling b).draft ≡ b.used + b.len
-  book_end = omega (arith, kept_words fits drafts b.used b.len b.words.now b.kept, draft_long b.used b.len b.words.now b.kept.0)
-
-  pub book_spelled : b.words.now ≡ all_words (filling b)
-  book_spelled =
-      kept_spelled fits drafts b.used b.len b.words.now b.kept
-      ∙ ap (λ k. spelled (filling b).clauses ++ ((filling b).draft ++ replicate (length b.words.now - k) (pos 0))) (sym book_end)
-
-  -- a new literal
-  pub book_pushed : (l : ℤ) → in_range b.variables l ≡ true → has (filling b).draft l ≡ false → b.fault ≡ None → b.used + b.len < length b.words.now
-      → Kept fits drafts b.used (b.len + 1) (set b.words.now (b.used + b.len) l)
-  book_pushed l r h e room =
-      let old = subst (λ f. unless f fits (filling b).draft ≡ true) e b.kept.3 in
-      kept_pushed fits drafts b.used b.len b.words.now b.kept drafts l room
-      (subst (λ f. unless f fits ((filling b).draft ++ (l ∷ [])) ≡ true) (sym e) (fits_push b.variables (filling b).draft l old r h))
-
-  -- where the clause that is being written is taken, it joins the book
-  pub book_ended : ending (filling b) ≡ Ok tt
-      → Kept fits drafts (b.used + (b.len + 1)) 0 b.words.now × (rows (take (b.used + (b.len + 1)) b.words.now) ≡ (filling b).clauses ++ ((filling b).draft ∷ []))
-  book_ended e =
-      let ws = b.words.now in
-      let draft = (filling b).draft in
-      let end = words_of (filling b).clauses + length draft in
-      let ok = reply_ok b.fault (no_place (filling b) (length draft)) e in
-      let fine : fits draft ≡ true = subst (λ f. unless f fits draft ≡ true) ok.0 b.kept.3 in
-      let room = leb-false (length ws) end (or_parts (leb (length ws) end) (leb 65535 (length (filling b).clauses)) ok.1).0 in
-      kept_ended fits drafts b.used b.len ws b.kept drafts (fits_words b.variables draft fine) fine (omega (arith, book_end)) (subst (λ f. unless f fits [] ≡ true) (sym ok.0) refl)
+pub clause_pushed : (b : Content) (l : ℤ) → in_range b.variables l ≡ true → has b.draft l ≡ false → clauses_of (B.pushed b l) ≡ pushed (clauses_of b) l
+clause_pushed b l r e = by b.fault ∙ sym (cond-true (in_range b.variables l) (noted (clauses_of b) l b.fault) (faulted (clauses_of b) NoVariable) r)
+  where
+    by : (f : Option Refusal) → clauses_of (B.noted b l f) ≡ noted (clauses_of b) l f
+    by (Some x) = refl
+    by None =
+        let c = clauses_of b in
+        cond_both (ltb (words_of b.standing + length b.draft) b.size) (B.writing b (b.draft ++ (l ∷ [])) b.fault) (B.writing b b.draft (Some NoRoom)) (λ d. clauses_of d ≡ written c l)
+        (λ t. sym (cond-true (ltb (words_of c.clauses + length c.draft) c.size) (extended c l) (faulted c NoRoom) t))
+        (λ t. sym (cond-false (ltb (words_of c.clauses + length c.draft) c.size) (extended c l) (faulted c NoRoom) t))
+        ∙ sym (cond-false (has b.draft l) (clauses_of b) (written (clauses_of b) l) e)
 
 -- A CLAUSE LITERAL BY LITERAL
 

@@ -1,19 +1,15 @@
 -- Going over the clauses of a book for what it tells.
-use Rattle.std.proofs.Common.{◌≡◌, ℕ, ◌+◌, ◌-◌, ◌<◌, ◌≤◌, Bool, true, false, not, List, length, get_or, take, drop, ℤ, pos, Some, None, Option, sym, refl, ap, ◌∙◌, subst, arith}
+use Rattle.std.proofs.Common.{◌≡◌, ℕ, Bool, true, false, List, ◌∷◌, ℤ, Some, None, Option, sym, refl, ap, ◌∙◌, arith}
 use Rattle.std.specs.Option.{option_or}
 use Rattle.rules.specs.Clauses.{status, is_falsified, is_unit, Status, Status.falsified, Status.unit, Status.other}
 use Rattle.rules.specs.Sources.{true_in, Answer, Answer.tells, or_else}
-use Rattle.rules.specs.Values.{value_in, kind_of, with_value}
-use Rattle.rules.specs.Spans.{span_words, Within}
-use Rattle.rules.specs.ClauseTelling.{span_answer}
-use Rattle.rules.specs.Rows.{is_zero}
-use Rattle.rules.specs.declared.span.Span.{Span}
+use Rattle.rules.specs.Values.{kind_of}
+use Rattle.rules.specs.ClauseTelling.{row_answer}
 use Rattle.rules.specs.declared.status.ClauseStatus.{ClauseStatus}
 use Rattle.rules.specs.declared.status.ClauseStatus.TheVariants.{Falsified, Unit, Other}
-use Rattle.rules.proofs.AnswerLaws.{told_with, found_with}
-use Rattle.rules.proofs.RowLaws.{none_zero, pass_push, part_push}
-use Rattle.rules.proofs.Valuations.{one_true}
-use Rattle.rules.proofs.Values.{status_push}
+use Rattle.std.specs.Borrow.{Bor}
+use Rattle.std.proofs.lemmas.Bool.{cond-true, cond-false}
+use Rattle.rules.proofs.AnswerLaws.{told_with, found_with, told_hit, told_next}
 
 -- the two tests of a clause under a row
 abbrev pub falsifies : List ℤ → List ℤ → Bool
@@ -45,23 +41,28 @@ is_other_kind falsified e = let z : ◌≡◌ {A = ℕ} 0 1 = cc in absurd (omeg
 is_other_kind (unit l) e = let z : ◌≡◌ {A = ℕ} 0 1 = cc in absurd (omega arith)
 is_other_kind other e = (refl, refl)
 
--- one literal on in the clause from s to p
-pub part_next : (row ws : List ℤ) (s p : ℕ) (k : ClauseStatus) → s ≤ p → p < length ws → is_zero (get_or ws p (pos 0)) ≡ false
-    → (none_zero (take (p - s) (drop s ws)) ≡ true) × (k ≡ kind_of (status (true_in row) (take (p - s) (drop s ws))))
-    → (none_zero (take (p + 1 - s) (drop s ws)) ≡ true) × (with_value k (value_in (true_in row) (get_or ws p (pos 0))) ≡ kind_of (status (true_in row) (take (p + 1 - s) (drop s ws))))
-part_next row ws s p k a b z i =
-    let part = take (p - s) (drop s ws) in
-    let w = get_or ws p (pos 0) in
-    let e = sym (part_push ws s p a b) in (
-      subst (λ r. none_zero r ≡ true) e (pass_push (λ x. not (is_zero x)) part w i.0 (ap not z)),
-      ap (λ j. with_value j (value_in (true_in row) w)) i.1 ∙ sym (status_push (true_in row) part w (one_true row w)) ∙ ap (λ r. kind_of (status (true_in row) r)) e,
-    )
+-- one clause on: it is falsified and told, or it is found if it is the first unit one, or it is neither
+module _ (row : List ℤ) (found : Answer) (C : List ℤ) (k : ClauseStatus) (is : k ≡ kind_of (status (true_in row) C)) (rest : List (List ℤ)) where
+  pub clause_hit : k ≡ Falsified → tells C ≡ clause_told row found (C ∷ rest)
+  clause_hit e = sym (told_hit (falsifies row) (λ D. D) (leaves_unit row) (λ D. D) found C rest (is_falsified_kind (status (true_in row) C) (sym is ∙ e)))
 
--- the first of two spans, as answers
-pub or_span : (ws : List ℤ) (a : Option Span) (s : Span) → span_answer ws (option_or a (Some s)) ≡ or_else (span_answer ws a) (tells (span_words ws s))
-or_span ws None s = refl
-or_span ws (Some b) s = refl
+  clause_next : falsifies row C ≡ false → clause_told row (clause_found row found C) rest ≡ clause_told row found (C ∷ rest)
+  clause_next h = sym (told_next (falsifies row) (λ D. D) (leaves_unit row) (λ D. D) found C rest h)
 
-pub or_within : (ws : List ℤ) (a b : Option Span) → Within ws a → Within ws b → Within ws (option_or a b)
-or_within ws None b h k = k
-or_within ws (Some s) b h k = h
+  pub clause_other : k ≡ Other → clause_told row found rest ≡ clause_told row found (C ∷ rest)
+  clause_other e =
+      let s = is_other_kind (status (true_in row) C) (sym is ∙ e) in
+      ap (λ a. clause_told row a rest) (sym (cond-false (leaves_unit row C) (or_else found (tells C)) found s.1)) ∙ clause_next s.0
+
+  found_unit : k ≡ Unit → clause_told row (or_else found (tells C)) rest ≡ clause_told row found (C ∷ rest)
+  found_unit e =
+      let s = is_unit_kind (status (true_in row) C) (sym is ∙ e) in
+      ap (λ a. clause_told row a rest) (sym (cond-true (leaves_unit row C) (or_else found (tells C)) found s.1)) ∙ clause_next s.0
+
+or_row : (found : Option (Bor (List ℤ))) (C : Bor (List ℤ)) → row_answer (option_or found (Some C)) ≡ or_else (row_answer found) (tells C.now)
+or_row None C = refl
+or_row (Some D) C = refl
+
+pub clause_unit : (row : List ℤ) (found : Option (Bor (List ℤ))) (C : Bor (List ℤ)) (k : ClauseStatus) → k ≡ kind_of (status (true_in row) C.now) → (rest : List (List ℤ)) → k ≡ Unit
+    → clause_told row (row_answer (option_or found (Some C))) rest ≡ clause_told row (row_answer found) (C.now ∷ rest)
+clause_unit row found C k is rest e = ap (λ a. clause_told row a rest) (or_row found C) ∙ found_unit row (row_answer found) C.now k is rest e

@@ -1,28 +1,23 @@
 -- A group book while it is filled: what keeps it as it should be, and that a group pushed literal by literal is the whole group.
-use Rattle.std.proofs.Common.{◌≡◌, ℕ, ◌+◌, ◌-◌, ◌<◌, ◌≤◌, Bool, true, false, cond, not, ◌&&◌, ltb, leb, List, [], ◌∷◌, ◌++◌, map, length, take, drop, set, replicate, ℤ, pos, negsuc, nat_abs, Some, None, Ok, Err, fold, Option, sym, refl, ap, ◌∙◌, subst, inl, inr, arith}
+use Rattle.std.proofs.Common.{◌≡◌, ℕ, ◌+◌, ◌-◌, ◌<◌, ◌≤◌, Bool, true, false, cond, ◌&&◌, ltb, leb, List, [], ◌∷◌, ◌++◌, map, length, take, replicate, ℤ, pos, negsuc, nat_abs, Some, None, Ok, Err, fold, Option, sym, refl, ap, ◌∙◌, subst, inl, inr, arith}
 use mathlib.Core.Bool.{false≢true}
 use Rattle.std.specs.List.{list_all}
-use Rattle.std.proofs.lemmas.List.{append-nil, append_assoc, length-append, length_push, length-set, get_or_push, take_at, take_all, take_more, take-set-le, map_push}
-use Rattle.std.proofs.lemmas.Bool.{cases_Bool, and_parts, and_from, not_from_false, ne_eqb, le-leb, leb-true, leb-false, lt-ltb, ltb-false, cond-true, cond-false}
+use Rattle.std.proofs.lemmas.List.{append-nil, append_assoc, length-append, length_push, get_or_push, take_at, take_all, take_more, map_push}
+use Rattle.std.proofs.lemmas.Bool.{cases_Bool, and_parts, and_from, le-leb, leb-true, lt-ltb, ltb-false, cond_both, cond-true, cond-false}
+use Rattle.std.proofs.lemmas.Bool.Decides.{nat_tests}
 use Rattle.rules.specs.Literals.{var, in_range}
 use Rattle.rules.specs.Books.{Group, rising, group_fits}
-use Rattle.rules.specs.Rows.{is_zero, rows, words_of, spelled, Kept}
+use Rattle.rules.specs.Rows.{words_of, spelled}
+use Rattle.rules.specs.RowBuffers.{Content}
+use Rattle.rules.specs.RowBuffers as B
 use Rattle.rules.specs.Drafts.{unless, Reply, reply}
 use Rattle.rules.specs.GroupRows.{as_row, last_word, as_group, is_limit, group_row_fits, draft_fits}
 use Rattle.rules.specs.declared.refusal.Refusal.{Refusal}
 use Rattle.rules.specs.declared.refusal.Refusal.TheVariants.{NoVariable, NoRoom, NotRising}
-use Rattle.rules.specs.declared.groups.GroupBook.{GroupBook}
-use Rattle.rules.specs.GroupFilling.{Filling, filling, all_words, writing, clean, faulted, extended, written, risen, fallen, pushed, no_place, ending, group_of, settled, answer_to}
-use Rattle.rules.proofs.RowLaws.{none_zero, pass_push, ranged_words, draft_long, draft_pushed, kept_pushed, kept_ended, kept_words, kept_spelled}
+use Rattle.rules.specs.GroupFilling.{Filling, raised, groups_of, all_words, writing, clean, faulted, extended, written, risen, fallen, pushed, no_place, ending, group_of, settled, answer_to}
+use Rattle.rules.proofs.RowLaws.{pass_push}
+use Rattle.rules.proofs.RowBuffers.{pushed_both}
 use Rattle.rules.proofs.DraftLaws.{reply_ok, whole_rule}
-
--- fillings with the same parts are the same
-abbrev parts : ℕ → ℕ → List Group → List ℤ → ℕ → Option Refusal → Filling
-parts v s gs d k f = record { variables = v; size = s; groups = gs; draft = d; last = k; fault = f }
-
-pub same_parts : {v v' s s' : ℕ} {gs gs' : List Group} {d d' : List ℤ} {k k' : ℕ} {f f' : Option Refusal} → v ≡ v' → s ≡ s' → gs ≡ gs' → d ≡ d' → k ≡ k' → f ≡ f'
-    → parts v s gs d k f ≡ parts v' s' gs' d' k' f'
-same_parts a b c e g h = cc
 
 -- A GROUP AS A ROW
 
@@ -90,10 +85,6 @@ draft_from : (n last : ℕ) (ls : List ℤ) → Drafted n last ls → draft_fits
 draft_from n last ls d =
     and_from (list_all (in_range n) ls) (rising 0 ls && list_all (λ x. leb (var x) last) ls) d.0 (and_from (rising 0 ls) (list_all (λ x. leb (var x) last) ls) d.1 d.2)
 
--- the last variable may be taken for a higher one
-draft_raised : (n last k : ℕ) (ls : List ℤ) → last ≤ k → draft_fits n last ls ≡ true → draft_fits n k ls ≡ true
-draft_raised n last k ls h d = let p = draft_parts n last ls d in draft_from n k ls (p.0, p.1, all_below last k ls h p.2)
-
 -- a literal that rises joins the others
 draft_push : (n last : ℕ) (ls : List ℤ) (l : ℤ) → draft_fits n last ls ≡ true → in_range n l ≡ true → last < var l → draft_fits n (var l) (ls ++ (l ∷ [])) ≡ true
 draft_push n last ls l d r e =
@@ -113,88 +104,87 @@ draft_row n last m ls d =
     (subst (λ w. is_limit w ≡ true) (sym (row_last (group m ls))) (le-leb 1 (m + 1) (omega arith)))
     (subst (λ G. group_fits n G ≡ true) (sym (row_group (group m ls))) (and_from (list_all (in_range n) ls) (rising 0 ls) p.0 p.1))
 
-draft_words : (n last m : ℕ) (ls : List ℤ) → draft_fits n last ls ≡ true → none_zero (as_row (group m ls)) ≡ true
-draft_words n last m ls d =
-    pass_push (λ w. not (is_zero w)) ls (pos (m + 1)) (ranged_words n ls (draft_parts n last ls d).0) (not_from_false (is_zero (pos (m + 1))) (ne_eqb (m + 1) 0 (λ e. omega arith)))
-
 -- A BOOK
 
-module _ (b : GroupBook) where
-  abbrev fits : List ℤ → Bool
-  fits = group_row_fits b.variables
+-- what a book keeps of its rows, where the last variable that rose is this one
+abbrev pub Kept : ℕ → Content → Type 0
+Kept last b = (list_all (group_row_fits b.variables) b.standing ≡ true) × (unless b.fault (draft_fits b.variables last) b.draft ≡ true)
 
-  abbrev drafts : List ℤ → Bool
-  drafts = unless b.fault (draft_fits b.variables b.last)
+-- the words that the rows take, and the words of the book, by its groups
+pub groups_words : (b : Content) → list_all (group_row_fits b.variables) b.standing ≡ true → words_of (map as_row (map as_group b.standing)) ≡ words_of b.standing
+groups_words b h = ap words_of (group_rows b.variables b.standing h)
 
-  pub book_rows : map as_row (filling b).groups ≡ rows (take b.used b.words.now)
-  book_rows = group_rows b.variables (rows (take b.used b.words.now)) b.kept.2
+pub groups_spelled : (b : Content) (last : ℕ) → list_all (group_row_fits b.variables) b.standing ≡ true → B.all_words b ≡ all_words (groups_of b last)
+groups_spelled b last h = ap (λ rs. spelled rs ++ (b.draft ++ replicate (b.size - (words_of rs + length b.draft)) (pos 0))) (sym (group_rows b.variables b.standing h))
 
-  book_words : words_of (map as_row (filling b).groups) ≡ b.used
-  book_words = ap words_of book_rows ∙ kept_words fits drafts b.used b.len b.words.now b.kept
+-- whether there is a word for the limit of the group that is being written, and one for the 0
+pub groups_full : (b : Content) (last : ℕ) → list_all (group_row_fits b.variables) b.standing ≡ true → ltb (B.free b) 2 ≡ no_place (groups_of b last) (length b.draft)
+groups_full b last h = under b.size (words_of b.standing + length b.draft) ∙ ap (λ k. leb b.size (k + length b.draft + 1)) (sym (groups_words b h))
+  where
+    under : (s n : ℕ) → ltb (s - n) 2 ≡ leb s (n + 1)
+    under s n = grind (arith, nat_tests)
 
-  book_draft : length (filling b).draft ≡ b.len
-  book_draft = draft_long b.used b.len b.words.now b.kept.0
+-- a literal that rises, as a word of the rows
+pub kept_pushed : (last : ℕ) (b : Content) (l : ℤ) → Kept last b → in_range b.variables l ≡ true → last < var l → Kept (var l) (B.pushed b l)
+kept_pushed last b l h r e =
+    let fits = λ (k : ℕ). draft_fits b.variables k in
+    pushed_both b l (Kept (var l)) (λ x f. (h.0, subst (λ k. unless k (fits (var l)) b.draft ≡ true) (sym f) refl))
+    (λ f. (
+      h.0,
+      subst (λ k. unless k (fits (var l)) (b.draft ++ (l ∷ [])) ≡ true) (sym f)
+          (draft_push b.variables last b.draft l (subst (λ k. unless k (fits last) b.draft ≡ true) f h.1) r e),
+    ))
+    (h.0, refl)
 
-  -- where the group that is being written ends
-  pub book_end : words_of (map as_row (filling b).groups) + length (filling b).draft ≡ b.used + b.len
-  book_end = omega (arith, book_words, book_draft)
+pub group_pushed : (last : ℕ) (b : Content) (l : ℤ) → Kept last b → in_range b.variables l ≡ true → last < var l → groups_of (B.pushed b l) (var l) ≡ pushed (groups_of b last) l
+group_pushed last b l h r e =
+    let old = groups_of b last in
+    by b.fault
+    ∙ sym (cond-true (ltb last (var l)) (risen old l b.fault) (fallen old b.fault) (lt-ltb last (var l) e))
+    ∙ sym (cond-true (in_range b.variables l) (cond (ltb last (var l)) (risen old l b.fault) (fallen old b.fault)) (faulted old NoVariable) r)
+  where
+    by : (f : Option Refusal) → groups_of (B.noted b l f) (var l) ≡ risen (groups_of b last) l f
+    by (Some x) = refl
+    by None =
+        let more = raised (groups_of b last) l in
+        let n = length b.draft in
+        let words = groups_words b h.0 in
+        cond_both (ltb (words_of b.standing + n) b.size) (B.writing b (b.draft ++ (l ∷ [])) b.fault) (B.writing b b.draft (Some NoRoom)) (λ d. groups_of d (var l) ≡ written more l)
+        (λ t. sym (cond-true _ (extended more l) (faulted more NoRoom) (ap (λ k. ltb (k + n) b.size) words ∙ t)))
+        (λ t. sym (cond-false _ (extended more l) (faulted more NoRoom) (ap (λ k. ltb (k + n) b.size) words ∙ t)))
 
-  pub book_spelled : b.words.now ≡ all_words (filling b)
-  book_spelled =
-      let ws = b.words.now in
-      kept_spelled fits drafts b.used b.len ws b.kept
-      ∙ ap (λ rs. spelled rs ++ ((filling b).draft ++ replicate (length ws - (b.used + b.len)) (pos 0))) (sym book_rows)
-      ∙ ap (λ k. spelled (map as_row (filling b).groups) ++ ((filling b).draft ++ replicate (length ws - k) (pos 0))) (sym book_end)
+-- with its limit m behind it, a group that is taken joins the book
+module _ (b : Content) (last m : ℕ) (kept : Kept last b) (full : Bool) (is : full ≡ no_place (groups_of b last) (length b.draft)) (ok : reply b.fault full ≡ Ok tt) where
+  abbrev limited : Content
+  limited = B.pushed b (pos (m + 1))
 
-  -- a higher variable
-  pub book_raised : (k : ℕ) → b.last ≤ k → Kept fits (unless b.fault (draft_fits b.variables k)) b.used b.len b.words.now
-  book_raised k h = (b.kept.0, b.kept.1, b.kept.2, by b.fault b.kept.3, b.kept.4)
-    where
-      by : (f : Option Refusal) → unless f (draft_fits b.variables b.last) (filling b).draft ≡ true → unless f (draft_fits b.variables k) (filling b).draft ≡ true
-      by None d = draft_raised b.variables b.last k (filling b).draft h d
-      by (Some r) d = refl
+  fine : b.fault ≡ None
+  fine = (reply_ok b.fault full ok).0
 
-  -- a literal that rises
-  pub book_pushed : (l : ℤ) → in_range b.variables l ≡ true → b.last < var l → b.fault ≡ None → b.used + b.len < length b.words.now
-      → Kept fits (unless b.fault (draft_fits b.variables (var l))) b.used (b.len + 1) (set b.words.now (b.used + b.len) l)
-  book_pushed l r h e room =
-      let old = subst (λ f. unless f (draft_fits b.variables b.last) (filling b).draft ≡ true) e b.kept.3 in
-      kept_pushed fits drafts b.used b.len b.words.now b.kept (unless b.fault (draft_fits b.variables (var l))) l room
-      (subst (λ f. unless f (draft_fits b.variables (var l)) ((filling b).draft ++ (l ∷ [])) ≡ true) (sym e) (draft_push b.variables b.last (filling b).draft l old r h))
+  room : 1 < B.free b
+  room = let p = ltb-false (B.free b) 2 (groups_full b last kept.0 ∙ sym is ∙ (reply_ok b.fault full ok).1) in omega arith
 
-  -- where the group that is being written is taken, there is a word for its limit and one for the 0
-  pub book_room : ending (filling b) ≡ Ok tt → b.used + b.len + 1 < length b.words.now
-  book_room e = subst (λ k. k + 1 < length b.words.now) book_end (leb-false (length b.words.now) (words_of (map as_row (filling b).groups) + length (filling b).draft + 1) (reply_ok b.fault (no_place (filling b) (length (filling b).draft)) e).1)
+  limited_row : limited ≡ B.writing b (as_row (group m b.draft)) b.fault
+  limited_row =
+      let more = B.writing b (as_row (group m b.draft)) b.fault in
+      ap (B.noted b (pos (m + 1))) fine ∙ cond-true _ more (B.writing b b.draft (Some NoRoom)) (lt-ltb (words_of b.standing + length b.draft) b.size (omega (arith, room)))
 
-  -- and it joins the book, with its limit m
-  pub book_ended : (m : ℕ) → ending (filling b) ≡ Ok tt → let ws = set b.words.now (b.used + b.len) (pos (m + 1)) in
-      Kept fits (unless b.fault (draft_fits b.variables 0)) (b.used + (b.len + 2)) 0 ws
-      × (map as_group (rows (take (b.used + (b.len + 2)) ws)) ≡ (filling b).groups ++ (group m (filling b).draft ∷ []))
-  book_ended m e =
-      let old = b.words.now in
-      let w = pos (m + 1) in
-      let at = b.used + b.len in
-      let ws = set old at w in
-      let draft = (filling b).draft in
-      let row = as_row (group m draft) in
-      let new = unless b.fault (draft_fits b.variables 0) in
-      let ok = reply_ok b.fault (no_place (filling b) (length draft)) e in
-      let fine : draft_fits b.variables b.last draft ≡ true = subst (λ f. unless f (draft_fits b.variables b.last) draft ≡ true) ok.0 b.kept.3 in
-      let room = book_room e in
-      let within : at < length old = omega arith in
-      let wrote = kept_pushed fits drafts b.used b.len old b.kept (λ _. true) w within refl in
-      let is : take (b.len + 1) (drop b.used ws) ≡ row = draft_pushed b.used b.len old w within in
-      let two : b.len + 1 + 1 ≡ b.len + 2 = omega arith in
-      let done = kept_ended fits (λ _. true) b.used (b.len + 1) ws wrote new
-      (subst (λ k. none_zero k ≡ true) (sym is) (draft_words b.variables b.last m draft fine))
-      (subst (λ k. fits k ≡ true) (sym is) (draft_row b.variables b.last m draft fine))
-      (omega (arith, length-set old at w)) (subst (λ f. unless f (draft_fits b.variables 0) [] ≡ true) (sym ok.0) refl) in
-      let joined : rows (take (b.used + (b.len + 1 + 1)) ws) ≡ rows (take b.used old) ++ (row ∷ []) =
-      done.1 ∙ ap (λ k. rows k ++ (take (b.len + 1) (drop b.used ws) ∷ [])) (take-set-le b.used old at w (omega arith)) ∙ ap (λ k. rows (take b.used old) ++ (k ∷ [])) is in (
-        subst (λ k. Kept fits new (b.used + k) 0 ws) two done.0,
-        ap (λ k. map as_group (rows (take (b.used + k) ws))) (sym two) ∙ ap (map as_group) joined ∙ map_push as_group (rows (take b.used old)) row
-            ∙ ap (λ G. (filling b).groups ++ (G ∷ [])) (row_group (group m draft)),
+  pub limit_room : 0 < B.free limited
+  limit_room = subst (λ d. 0 < B.free d) (sym limited_row) (omega (arith, room, length_push b.draft (pos (m + 1))))
+
+  pub kept_ended : Kept 0 (B.joined limited)
+  kept_ended =
+      let draft = subst (λ f. unless f (draft_fits b.variables last) b.draft ≡ true) fine kept.1 in
+      subst (λ d. Kept 0 (B.joined d)) (sym limited_row) (
+        pass_push (group_row_fits b.variables) b.standing (as_row (group m b.draft)) kept.0 (draft_row b.variables last m b.draft draft),
+        subst (λ f. unless f (draft_fits b.variables 0) [] ≡ true) (sym fine) refl,
       )
+
+  pub group_ended : groups_of (B.joined limited) 0 ≡ settled (groups_of b last) (group m b.draft) (Ok tt)
+  group_ended =
+      let joins = map_push as_group b.standing (as_row (group m b.draft)) ∙ ap (λ G. map as_group b.standing ++ (G ∷ [])) (row_group (group m b.draft)) in
+      let f = fine in
+      ap (λ d. groups_of (B.joined d) 0) limited_row ∙ (cc)
 
 -- A GROUP LITERAL BY LITERAL
 

@@ -5,7 +5,7 @@ use lib.IntN.{neg_ℤ-neg_ℤ}
 use Rattle.std.specs.List.{list_all}
 use Rattle.std.proofs.lemmas.List.Elements.{All-nil, All-cons, All-head, All-tail, All-weaker, All-take, All-map, All-push, All-filter, filter_passes, filter-append}
 use Rattle.std.proofs.lemmas.List.{length-take-le, length_push, map_push}
-use Rattle.std.proofs.lemmas.Bool.{both_ways, cases_Bool, and_parts, and_right, or_parts, eqb-true, ne_eqb, leb-true, le-leb, ltb-true, ltb-false, le-ltb, not-true, not-false}
+use Rattle.std.proofs.lemmas.Bool.{both_ways, cases_Bool, and_parts, and_from, and_right, or_parts, eqb-true, ne_eqb, leb-true, le-leb, ltb-true, ltb-false, le-ltb, not-true, not-false}
 use Rattle.rules.specs.Literals.{var, in_range, has, Once}
 use Rattle.rules.specs.Clauses.{loose, by_loose, is_falsified, is_unit}
 use Rattle.rules.specs.Sources.{makes, satisfies, assignment, true_in, Full, Meaning, ToldClause, Lawful}
@@ -14,6 +14,7 @@ use Rattle.rules.proofs.Literals.{var_cases, range_bounds, range_neg, all_has, h
 use Rattle.rules.proofs.Statuses.{kept_in, in_kept, kept_cong}
 use Rattle.rules.proofs.Valuations.{full_neg, full_makes, makes_neg}
 use Rattle.rules.proofs.Lists.{all_passes, asserts, kept_none, none_loose, once_kept, once_take, once_push, once_neg, rising_once, length_within}
+use Rattle.rules.specs.GroupRows.{last_word, is_limit, as_group, group_row_fits}
 use Rattle.rules.proofs.BookLaws.{Kind, Obeys, RuleLaws, book_lawful}
 
 -- groups as a kind of rule
@@ -149,3 +150,11 @@ group_laws n G fits =
 
 pub group_book_lawful : (n : ℕ) (Gs : List Group) → list_all (group_fits n) Gs ≡ true → Lawful (group_book n Gs)
 group_book_lawful n Gs fit = book_lawful n groups (group_fits n) (group_laws n) Gs fit
+
+-- the groups of rows that fit, fit
+pub rows_fit : (n : ℕ) (all : List (List ℤ)) → list_all (group_row_fits n) all ≡ true → list_all (group_fits n) (map as_group all) ≡ true
+rows_fit n [] h = refl
+rows_fit n (row ∷ all) h =
+    let q = and_parts (group_row_fits n row) (list_all (group_row_fits n) all) h in
+    let r = and_parts (is_limit (last_word row)) (group_fits n (as_group row)) q.0 in
+    and_from (group_fits n (as_group row)) (list_all (group_fits n) (map as_group all)) r.1 (rows_fit n all q.1)

@@ -1,25 +1,24 @@
 -- Going over the groups of a book for what it tells.
-use Rattle.std.proofs.Common.{◌≡◌, ℕ, zero, suc, ◌+◌, ◌<◌, ◌≤◌, min, Bool, true, false, cond, not, ◌&&◌, ◌⊎◌, List, [], ◌∷◌, ◌++◌, map, length, get_or, take, drop, set, ℤ, pos, negsuc, neg_ℤ, nat_abs, Some, None, filter, Option, sym, refl, ap, ◌∙◌, subst, inl, inr, arith, take_all, w32, SFits}
+use Rattle.std.proofs.Common.{◌≡◌, ℕ, zero, suc, ◌+◌, ◌<◌, ◌≤◌, Bool, true, false, cond, not, leb, ◌&&◌, ◌⊎◌, List, [], ◌∷◌, ◌++◌, map, length, get_or, take, set, ℤ, pos, negsuc, neg_ℤ, nat_abs, Some, None, filter, Option, sym, refl, ap, ◌∙◌, subst, inl, inr, arith, take_all, w32, SFits}
 use mathlib.Core.Bool.{false≢true}
 use Rattle.std.specs.List.{list_all}
-use Rattle.std.proofs.lemmas.List.Elements.{filter-append, filter_more}
+use Rattle.std.proofs.lemmas.List.Elements.{filter_more}
 use Rattle.std.proofs.lemmas.List.Filters.{length-filter_more}
-use Rattle.std.proofs.lemmas.List.{append-nil, drop_more, length-map, length_push, map_push, length-take, take-append-drop, take-append-le}
-use Rattle.std.proofs.lemmas.Bool.{and_parts, and_from, cond-true, cond-false, lt-ltb, le-ltb}
+use Rattle.std.proofs.lemmas.List.{append-nil, length-map, length_push, map_push, length-take, take-append-le}
+use Rattle.std.proofs.lemmas.Bool.{and_parts, and_from, cond-true, cond-false, lt-ltb, le-ltb, le-leb}
 use Rattle.rules.specs.Literals.{var, in_range}
 use Rattle.rules.specs.Sources.{true_in, Answer, Answer.tells, or_else, page_after}
-use Rattle.rules.specs.Books.{Group, true_ones, open_ones, over, over_clause, tight, tight_clause, group_fits}
+use Rattle.rules.specs.Books.{Group, true_ones, open_ones, over, over_clause, tight, tight_clause}
 use Rattle.rules.specs.GroupRows.{last_word, is_limit, as_group, group_row_fits}
-use Rattle.rules.specs.GroupTelling.{is_open, is_value, group_status, group_clause, group_answer, page_with, Fitting}
-use Rattle.rules.specs.Spans.{span_words}
+use Rattle.rules.specs.GroupTelling.{is_open, is_value, group_status, group_clause, group_answer, Fitting}
 use Rattle.rules.specs.Values.{value_in}
 use Rattle.std.specs.Option.{option_or}
-use Rattle.rules.specs.declared.span.Span.{Span}
-use Rattle.rules.specs.declared.groups.telling.GroupStatus.TheVariants.{Over, Tight, Other}
+use Rattle.std.specs.Borrow.{Bor}
+use Rattle.rules.specs.declared.status.ClauseStatus.TheVariants.{Falsified, Unit as UnitOf, Other}
 use Rattle.rules.specs.declared.literal.Value.{Value}
 use Rattle.rules.specs.declared.literal.Value.TheVariants.{True, False, Unassigned}
 use Rattle.rules.proofs.Literals.{range_bounds}
-use Rattle.rules.proofs.AnswerLaws.{told_with, found_with}
+use Rattle.rules.proofs.AnswerLaws.{told_with, found_with, told_hit, told_next}
 use Rattle.rules.proofs.Pages.{page_push}
 
 -- a row with a limit is not empty
@@ -73,6 +72,13 @@ pass_getD p (x ∷ xs) (suc i) d h l = pass_getD p xs i d (and_parts (p x) (list
 pub ranged_small : (n : ℕ) (ls : List ℤ) (i : ℕ) → n ≤ 1000 → list_all (in_range n) ls ≡ true → i < length ls → var (get_or ls i (pos 0)) ≤ 1000
 ranged_small n ls i h r l = let b = range_bounds n (get_or ls i (pos 0)) (pass_getD (in_range n) ls i (pos 0) r l) in omega arith
 
+pub ranged_few : (n : ℕ) (ls : List ℤ) → n ≤ 1000 → list_all (in_range n) ls ≡ true → list_all (in_range 1000) ls ≡ true
+ranged_few n [] h r = refl
+ranged_few n (l ∷ ls) h r =
+    let q = and_parts (in_range n l) (list_all (in_range n) ls) r in
+    let b = range_bounds n l q.0 in
+    and_from (in_range 1000 l) (list_all (in_range 1000) ls) (and_from (leb 1 (var l)) (leb (var l) 1000) (le-leb 1 (var l) b.0) (le-leb (var l) 1000 (omega arith))) (ranged_few n ls h q.1)
+
 pub small_fits : (l : ℤ) → var l ≤ 1000 → SFits w32 l
 small_fits (pos v) h = record { sfits = omega arith }
 small_fits (negsuc v) h = record { sfits = omega arith }
@@ -94,50 +100,30 @@ is_open_value f l = by (f l) (f (neg_ℤ l))
     by false true = refl
     by false false = refl
 
--- the first m + 1 that pass, with one literal more that is wanted
+-- the first m that pass, with one literal more that is wanted
 module _ (p : ℤ → Bool) (ls : List ℤ) (m i : ℕ) (h : i < length ls) where
   abbrev front : ℕ → List ℤ
-  front k = take (m + 1) (filter p (take k ls))
+  front k = take m (filter p (take k ls))
 
-  pub front_takes : length (front i) ≤ m → p (get_or ls i (pos 0)) ≡ true → front (i + 1) ≡ front i ++ (get_or ls i (pos 0) ∷ [])
+  pub front_takes : length (front i) < m → p (get_or ls i (pos 0)) ≡ true → front (i + 1) ≡ front i ++ (get_or ls i (pos 0) ∷ [])
   front_takes short e =
       let K = filter p (take i ls) in
       let x = get_or ls i (pos 0) in
-      let t = length-take (m + 1) K in
+      let t = length-take m K in
       let p' = length_push K x in
-      ap (take (m + 1)) (filter_more p ls i (pos 0) h ∙ ap (λ k. K ++ k) (cond-true (p x) (x ∷ []) [] e))
-      ∙ take_all (m + 1) (K ++ (x ∷ [])) (omega arith) ∙ ap (λ k. k ++ (x ∷ [])) (sym (take_all (m + 1) K (omega arith)))
+      ap (take m) (filter_more p ls i (pos 0) h ∙ ap (λ k. K ++ k) (cond-true (p x) (x ∷ []) [] e))
+      ∙ take_all m (K ++ (x ∷ [])) (omega arith) ∙ ap (λ k. k ++ (x ∷ [])) (sym (take_all m K (omega arith)))
 
-  pub front_stays : (p (get_or ls i (pos 0)) ≡ false) ⊎ (m < length (front i)) → front (i + 1) ≡ front i
+  pub front_stays : (p (get_or ls i (pos 0)) ≡ false) ⊎ (m ≤ length (front i)) → front (i + 1) ≡ front i
   front_stays (inl e) =
       let K = filter p (take i ls) in
       let x = get_or ls i (pos 0) in
-      ap (take (m + 1)) (filter_more p ls i (pos 0) h ∙ ap (λ k. K ++ k) (cond-false (p x) (x ∷ []) [] e) ∙ append-nil K)
+      ap (take m) (filter_more p ls i (pos 0) h ∙ ap (λ k. K ++ k) (cond-false (p x) (x ∷ []) [] e) ∙ append-nil K)
   front_stays (inr l) =
       let K = filter p (take i ls) in
       let x = get_or ls i (pos 0) in
-      let t = length-take (m + 1) K in
-      ap (take (m + 1)) (filter_more p ls i (pos 0) h) ∙ take-append-le (m + 1) K (cond (p x) (x ∷ []) []) (omega arith)
-
--- the groups of rows that fit, fit
-pub rows_fit : (n : ℕ) (all : List (List ℤ)) → list_all (group_row_fits n) all ≡ true → list_all (group_fits n) (map as_group all) ≡ true
-rows_fit n [] h = refl
-rows_fit n (row ∷ all) h =
-    let q = and_parts (group_row_fits n row) (list_all (group_row_fits n) all) h in
-    let r = and_parts (is_limit (last_word row)) (group_fits n (as_group row)) q.0 in
-    and_from (group_fits n (as_group row)) (list_all (group_fits n) (map as_group all)) r.1 (rows_fit n all q.1)
-
--- the first that passes, where none did before it
-pub none_stays : (p : ℤ → Bool) (ls : List ℤ) (i : ℕ) → i < length ls → filter p (take i ls) ≡ [] → p (get_or ls i (pos 0)) ≡ false → filter p (take (i + 1) ls) ≡ []
-none_stays p ls i h none e =
-    let x = get_or ls i (pos 0) in
-    filter_more p ls i (pos 0) h ∙ ap (λ k. k ++ cond (p x) (x ∷ []) []) none ∙ cond-false (p x) (x ∷ []) [] e
-
-pub first_kept : (p : ℤ → Bool) (ls : List ℤ) (i : ℕ) → i < length ls → filter p (take i ls) ≡ [] → p (get_or ls i (pos 0)) ≡ true → filter p ls ≡ get_or ls i (pos 0) ∷ filter p (drop (i + 1) ls)
-first_kept p ls i h none e =
-    let x = get_or ls i (pos 0) in
-    ap (filter p) (sym (take-append-drop i ls)) ∙ filter-append p (take i ls) (drop i ls) ∙ ap (λ k. k ++ filter p (drop i ls)) none
-    ∙ ap (filter p) (drop_more ls i (pos 0) h) ∙ cond-true (p x) (x ∷ filter p (drop (i + 1) ls)) (filter p (drop (i + 1) ls)) e
+      let t = length-take m K in
+      ap (take m) (filter_more p ls i (pos 0) h) ∙ take-append-le m K (cond (p x) (x ∷ []) []) (omega arith)
 
 -- what is told and found, group by group
 abbrev pub group_told : List ℤ → Answer → List Group → Answer
@@ -146,20 +132,13 @@ group_told row = told_with (over (true_in row)) (over_clause (true_in row)) (tig
 abbrev pub group_found : List ℤ → Answer → Group → Answer
 group_found row = found_with (over (true_in row)) (over_clause (true_in row)) (tight (true_in row)) (tight_clause (true_in row))
 
--- a page on which the negations of C are laid, with one more
-pub page_turn : (n : ℕ) (start C : List ℤ) (x : ℤ) (page : List ℤ) (len : ℕ) → page ≡ page_after n (tells (map neg_ℤ C)) start → len ≡ length C
-    → set page (min (length page) n + len) (neg_ℤ x) ≡ page_after n (tells (map neg_ℤ (C ++ (x ∷ [])))) start
-page_turn n start C x page len e k =
+-- room into which the negations of C are laid behind n words, with one more
+pub room_turn : (n : ℕ) (start C : List ℤ) (x : ℤ) (room : List ℤ) (now : ℕ) → room ≡ page_after n (tells (map neg_ℤ C)) start → now ≡ n + length C
+    → set room now (neg_ℤ x) ≡ page_after n (tells (map neg_ℤ (C ++ (x ∷ [])))) start
+room_turn n start C x room now e k =
     let D = map neg_ℤ C in
-    ap (λ q. set q (min (length q) n + len) (neg_ℤ x)) e
-    ∙ ap (λ j. set (page_after n (tells D) start) (min (length (page_after n (tells D) start)) n + j) (neg_ℤ x)) (k ∙ sym (length-map C neg_ℤ))
+    ap (λ q. set q now (neg_ℤ x)) e ∙ ap (λ j. set (page_after n (tells D) start) j (neg_ℤ x)) (k ∙ ap (λ j. n + j) (sym (length-map C neg_ℤ)))
     ∙ page_push n D start (neg_ℤ x) ∙ ap (λ q. page_after n (tells q) start) (sym (map_push neg_ℤ C x))
-
--- the page with the first of these literals too, if there is one
-pub page_ending : (n : ℕ) (start C O page : List ℤ) (len : ℕ) → page ≡ page_after n (tells (map neg_ℤ C)) start → len ≡ length C
-    → page_with n len page O ≡ page_after n (tells (map neg_ℤ (C ++ take 1 O))) start
-page_ending n start C [] page len e k = e ∙ ap (λ q. page_after n (tells (map neg_ℤ q)) start) (sym (append-nil C))
-page_ending n start C (x ∷ O) page len e k = page_turn n start C x page len e k
 
 -- the clause to tell, by the first limit + 1 of the true literals
 module _ (f : ℤ → Bool) (G : Group) where
@@ -174,39 +153,67 @@ module _ (f : ℤ → Bool) (G : Group) where
       cond-false (over f G) (over_clause f G) (tight_clause f G) (le-ltb G.most (length (true_ones f G)) (omega arith))
       ∙ ap (λ k. map neg_ℤ (k ++ take 1 (open_ones f G))) (sym (take_all (G.most + 1) (true_ones f G) (omega arith)))
 
-  -- how a group stands, by the tests
-  pub status_over : Over ≡ group_status f G → over f G ≡ true
-  status_over e = by (over f G) (tight f G) e
-    where
-      by : (a b : Bool) → Over ≡ cond a Over (cond b Tight Other) → a ≡ true
-      by true b z = refl
-      by false true z = let q : ◌≡◌ {A = ℕ} 0 1 = cc in absurd (omega arith)
-      by false false z = let q : ◌≡◌ {A = ℕ} 0 1 = cc in absurd (omega arith)
+-- how a group stands, by the tests
+status_over : (f : ℤ → Bool) (G : Group) → group_status f G ≡ Falsified → over f G ≡ true
+status_over f G = by (over f G) (tight f G)
+  where
+    by : (a b : Bool) → cond a Falsified (cond b UnitOf Other) ≡ Falsified → a ≡ true
+    by true b e = refl
+    by false true e = cc
+    by false false e = cc
 
-  pub status_tight : Tight ≡ group_status f G → (over f G ≡ false) × (tight f G ≡ true)
-  status_tight e = by (over f G) (tight f G) e
-    where
-      by : (a b : Bool) → Tight ≡ cond a Over (cond b Tight Other) → (a ≡ false) × (b ≡ true)
-      by true b z = let q : ◌≡◌ {A = ℕ} 0 1 = cc in absurd (omega arith)
-      by false true z = (refl, refl)
-      by false false z = let q : ◌≡◌ {A = ℕ} 0 1 = cc in absurd (omega arith)
+status_tight : (f : ℤ → Bool) (G : Group) → group_status f G ≡ UnitOf → (over f G ≡ false) × (tight f G ≡ true)
+status_tight f G = by (over f G) (tight f G)
+  where
+    by : (a b : Bool) → cond a Falsified (cond b UnitOf Other) ≡ UnitOf → (a ≡ false) × (b ≡ true)
+    by true b e = (cc, cc)
+    by false true e = (refl, refl)
+    by false false e = (cc, cc)
 
-  pub status_other : Other ≡ group_status f G → (over f G ≡ false) × (tight f G ≡ false)
-  status_other e = by (over f G) (tight f G) e
-    where
-      by : (a b : Bool) → Other ≡ cond a Over (cond b Tight Other) → (a ≡ false) × (b ≡ false)
-      by true b z = let q : ◌≡◌ {A = ℕ} 0 1 = cc in absurd (omega arith)
-      by false true z = let q : ◌≡◌ {A = ℕ} 0 1 = cc in absurd (omega arith)
-      by false false z = (refl, refl)
+status_other : (f : ℤ → Bool) (G : Group) → group_status f G ≡ Other → (over f G ≡ false) × (tight f G ≡ false)
+status_other f G = by (over f G) (tight f G)
+  where
+    by : (a b : Bool) → cond a Falsified (cond b UnitOf Other) ≡ Other → (a ≡ false) × (b ≡ false)
+    by true b e = (cc, cc)
+    by false true e = (cc, cc)
+    by false false e = (refl, refl)
+
+-- one group on: it is over and told, or it is found if it is the first tight one, or it is neither
+module _ (row : List ℤ) (found : Answer) (G : Group) (rest : List Group) where
+  abbrev f : ℤ → Bool
+  f = true_in row
+
+  group_next : over f G ≡ false → group_told row (group_found row found G) rest ≡ group_told row found (G ∷ rest)
+  group_next h = sym (told_next (over f) (over_clause f) (tight f) (tight_clause f) found G rest h)
+
+  pub group_over : group_status f G ≡ Falsified → tells (group_clause f G) ≡ group_told row found (G ∷ rest)
+  group_over e =
+      let h = status_over f G e in
+      ap tells (cond-true (over f G) (over_clause f G) (tight_clause f G) h) ∙ sym (told_hit (over f) (over_clause f) (tight f) (tight_clause f) found G rest h)
+
+  pub group_other : group_status f G ≡ Other → group_told row found rest ≡ group_told row found (G ∷ rest)
+  group_other e =
+      let s = status_other f G e in
+      ap (λ a. group_told row a rest) (sym (cond-false (tight f G) (or_else found (tells (tight_clause f G))) found s.1)) ∙ group_next s.0
+
+  found_tight : group_status f G ≡ UnitOf → group_told row (or_else found (tells (group_clause f G))) rest ≡ group_told row found (G ∷ rest)
+  found_tight e =
+      let s = status_tight f G e in
+      ap (λ a. group_told row a rest) (ap (λ C. or_else found (tells C)) (cond-false (over f G) (over_clause f G) (tight_clause f G) s.0)
+      ∙ sym (cond-true (tight f G) (or_else found (tells (tight_clause f G))) found s.1)) ∙ group_next s.0
 
 -- the first of two groups, as answers
-pub or_group : (f : ℤ → Bool) (ws : List ℤ) (a : Option Span) (s : Span) → group_answer f ws (option_or a (Some s)) ≡ or_else (group_answer f ws a) (tells (group_clause f (as_group (span_words ws s))))
-or_group f ws None s = refl
-or_group f ws (Some b) s = refl
+or_group : (f : ℤ → Bool) (a : Option (Bor (List ℤ))) (row : Bor (List ℤ)) → group_answer f (option_or a (Some row)) ≡ or_else (group_answer f a) (tells (group_clause f (as_group row.now)))
+or_group f None row = refl
+or_group f (Some b) row = refl
 
-pub or_fitting : (n : ℕ) (ws : List ℤ) (a b : Option Span) → Fitting n ws a → Fitting n ws b → Fitting n ws (option_or a b)
-or_fitting n ws None b h k = k
-or_fitting n ws (Some s) b h k = h
+pub or_fitting : (n : ℕ) (a b : Option (Bor (List ℤ))) → Fitting n a → Fitting n b → Fitting n (option_or a b)
+or_fitting n None b h k = k
+or_fitting n (Some row) b h k = h
+
+pub group_tight : (row : List ℤ) (found : Option (Bor (List ℤ))) (words : Bor (List ℤ)) (rest : List Group) → let f = true_in row in group_status f (as_group words.now) ≡ UnitOf
+    → group_told row (group_answer f (option_or found (Some words))) rest ≡ group_told row (group_answer f found) (as_group words.now ∷ rest)
+group_tight row found words rest e = ap (λ a. group_told row a rest) (or_group (true_in row) found words) ∙ found_tight row (group_answer (true_in row) found) (as_group words.now) rest e
 
 -- a row that comes first among rows that fit, fits, and so do the others
 pub first_fits : (n : ℕ) (row : List ℤ) (all rest : List (List ℤ)) → all ≡ row ∷ rest → list_all (group_row_fits n) all ≡ true → (group_row_fits n row ≡ true) × (list_all (group_row_fits n) rest ≡ true)

@@ -3,6 +3,7 @@ pub mod Statuses
 pub mod Values
 pub mod Pages
 pub mod RowLaws
+pub mod RowBuffers
 pub mod DraftLaws
 pub mod ClauseFillings
 pub mod GroupFillings
@@ -12,6 +13,5 @@ pub mod AnswerLaws
 pub mod BookLaws
 pub mod ClauseLaws
 pub mod GroupLaws
-pub mod JoinLaws
 pub mod ClauseTells
 pub mod GroupTells

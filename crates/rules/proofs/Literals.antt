@@ -5,6 +5,7 @@ use mathlib.Core.Bool.{false≢true}
 use Rattle.std.specs.List.{HoldsAt}
 use Rattle.std.proofs.lemmas.Bool.{eqb-true, eq-eqb, or_cases, or_left, or_right, and_parts, and_from, leb-true, le-leb}
 use Rattle.std.proofs.lemmas.Bool.Decides.{Decides-by_or}
+use Rattle.std.proofs.Math.Bool.{or_assoc, or-false}
 use Rattle.rules.specs.Literals.{var, same, in_range, has, names, any_pass}
 
 pub same_true : (x y : ℤ) → same x y ≡ true → x ≡ y
@@ -58,18 +59,12 @@ pub decides_has : (x : ℤ) (ls : List ℤ) → Decides (has ls x) ((k : ℕ) ×
 decides_has x ls = Decides-by_or (λ l. same x l) (λ y. y ≡ x) (λ k. has k x) (λ l. ((λ e. sym (same_true x l e)), (λ e. eq_same x l (sym e)))) refl (λ _ _. refl) ls
 
 pub has_push : (ls : List ℤ) (l x : ℤ) → has (ls ++ (l ∷ [])) x ≡ (has ls x || same x l)
-has_push [] l x = or_comm (same x l) false
-  where
-    or_comm : (a b : Bool) → (a || b) ≡ (b || a)
-    or_comm true true = refl
-    or_comm true false = refl
-    or_comm false true = refl
-    or_comm false false = refl
-has_push (k ∷ ls) l x = ap (λ b. same x k || b) (has_push ls l x) ∙ or_assoc (same x k) (has ls x) (same x l)
-  where
-    or_assoc : (a b c : Bool) → (a || (b || c)) ≡ ((a || b) || c)
-    or_assoc true b c = refl
-    or_assoc false b c = refl
+has_push [] l x = or-false (same x l)
+has_push (k ∷ ls) l x = ap (λ b. same x k || b) (has_push ls l x) ∙ sym (or_assoc (same x k) (has ls x) (same x l))
+
+pub any_push : (p : ℤ → Bool) (ls : List ℤ) (l : ℤ) → any_pass p (ls ++ (l ∷ [])) ≡ (any_pass p ls || p l)
+any_push p [] l = or-false (p l)
+any_push p (k ∷ ls) l = ap (λ b. p k || b) (any_push p ls l) ∙ sym (or_assoc (p k) (any_pass p ls) (p l))
 
 pub all_has : (P : ℤ → Type 0) (ls : List ℤ) → All P ls → (x : ℤ) → has ls x ≡ true → P x
 all_has P [] h x e = absurd (false≢true e)

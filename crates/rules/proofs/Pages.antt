@@ -1,7 +1,7 @@
 -- Laws of pages: a valuation, with room behind it for a clause.
-use Rattle.std.proofs.Common.{◌≡◌, ℕ, zero, suc, ◌+◌, ◌-◌, ◌≤◌, min, ◌⊎◌, List, [], ◌∷◌, ◌++◌, length, take, drop, set, ℤ, sym, refl, ap, ◌∙◌, inl, inr, arith, take_all}
+use Rattle.std.proofs.Common.{◌≡◌, ℕ, zero, suc, ◌+◌, ◌-◌, ◌≤◌, min, ◌⊎◌, List, [], ◌∷◌, ◌++◌, length, take, drop, set, ℤ, sym, refl, ap, ◌∙◌, inl, inr, arith, take_all, length-take-le}
 use borrow.Rule.Slice.PartMut.{put_mid}
-use Rattle.std.proofs.lemmas.List.{append-nil, drop_all, length-append, length-drop, length-take, set-append_right, take-append-drop, take_at, take-take}
+use Rattle.std.proofs.lemmas.List.{append-nil, drop_all, length-drop, set-append_right, set_past}
 use Rattle.std.proofs.lemmas.Bool.{cases_lt}
 use Rattle.rules.specs.Sources.{Answer.tells, laid, page_after}
 
@@ -12,7 +12,7 @@ take_min n ws = elim (cases_lt (length ws) n) [
   | inr h ↦ let e : min (length ws) n ≡ n = omega arith in ap (λ k. take k ws) e
 ]
 
-drop_min : (n : ℕ) (ws : List ℤ) → drop (min (length ws) n) ws ≡ drop n ws
+pub drop_min : (n : ℕ) (ws : List ℤ) → drop (min (length ws) n) ws ≡ drop n ws
 drop_min n ws = elim (cases_lt (length ws) n) [
   | inl h ↦ drop_all (min (length ws) n) ws (omega arith) ∙ sym (drop_all n ws (omega arith))
   | inr h ↦ let e : min (length ws) n ≡ n = omega arith in ap (λ k. drop k ws) e
@@ -33,30 +33,27 @@ laid_none : (C : List ℤ) → laid C [] ≡ []
 laid_none [] = refl
 laid_none (l ∷ C) = refl
 
-front_long : (n : ℕ) (page : List ℤ) → length (take n page) ≡ min (length page) n
-front_long n page = length-take n page ∙ (omega arith)
-
--- no clause leaves the page as it was
-pub page_none : (n : ℕ) (page : List ℤ) → page_after n (tells []) page ≡ page
-page_none n page = take-append-drop n page
-
--- a clause leaves the valuation
-pub page_front : (n : ℕ) (C page : List ℤ) → take n (page_after n (tells C) page) ≡ take n page
-page_front n C page = elim (cases_lt (length page) n) [
-  | inl h ↦ ap (λ r. take n (take n page ++ r)) (ap (laid C) (drop_all n page (omega arith)) ∙ laid_none C) ∙ ap (take n) (append-nil (take n page)) ∙ take-take n n page (omega arith)
-  | inr h ↦ take_at (take n page) (laid C (drop n page)) n (front_long n page ∙ (omega arith))
-]
+-- a page with no room for a clause
+page_short : (n : ℕ) (C page : List ℤ) → length page ≤ n → page_after n (tells C) page ≡ page
+page_short n C page h = ap (λ r. take n page ++ r) (ap (laid C) (drop_all n page h) ∙ laid_none C) ∙ append-nil (take n page) ∙ take_all n page h
 
 -- one more word of the clause
-pub page_push : (n : ℕ) (C page : List ℤ) (l : ℤ) → set (page_after n (tells C) page) (min (length (page_after n (tells C) page)) n + length C) l ≡ page_after n (tells (C ++ (l ∷ []))) page
-page_push n C page l =
-    let front = take n page in
-    let room = laid C (drop n page) in
-    let long = front_long n page in
-    let all : length (front ++ room) ≡ length page = length-append front room ∙ ap (λ k. length front + k) (laid_length C (drop n page)) ∙ sym (length-append front (drop n page)) ∙ ap length (take-append-drop n page) in
-    let at = min (length (front ++ room)) n + length C in
-    let e : at - length front ≡ length C = omega arith in
-    set-append_right front room (length front) at l refl (omega arith) ∙ ap (λ k. front ++ set room k l) e ∙ ap (λ k. front ++ k) (laid_push C (drop n page) l)
+pub page_push : (n : ℕ) (C page : List ℤ) (l : ℤ) → set (page_after n (tells C) page) (n + length C) l ≡ page_after n (tells (C ++ (l ∷ []))) page
+page_push n C page l = elim (cases_lt (length page) n) [
+  | inl h ↦ ap (λ q. set q (n + length C) l) (page_short n C page (omega arith)) ∙ set_past page (n + length C) l (omega arith) ∙ sym (page_short n (C ++ (l ∷ [])) page (omega arith))
+  | inr h ↦
+      let front = take n page in
+      let room = laid C (drop n page) in
+      let long : length front ≡ n = length-take-le n page h in
+      let e : n + length C - length front ≡ length C = omega arith in
+      set-append_right front room (length front) (n + length C) l refl (omega arith) ∙ ap (λ k. front ++ set room k l) e ∙ ap (λ k. front ++ k) (laid_push C (drop n page) l)
+]
+
+-- a clause laid behind another
+pub laid_more : (A B room : List ℤ) → take (length A) (laid A room) ++ laid B (drop (length A) (laid A room)) ≡ laid (A ++ B) room
+laid_more [] B room = refl
+laid_more (l ∷ A) B [] = laid_none B
+laid_more (l ∷ A) B (w ∷ room) = ap (λ r. l ∷ r) (laid_more A B room)
 
 -- a clause laid over room: k literals of it fit, and either it has no more or the room has none
 laid_front : (k : ℕ) (C room : List ℤ) → k ≤ length C → k ≤ length room → (length C ≤ k) ⊎ (length room ≤ k) → take k C ++ drop k room ≡ laid C room

@@ -1,9 +1,12 @@
 -- A clause book while it is filled.
-use Rattle.std.specs.Prelude.{ℕ, ◌+◌, ◌-◌, Bool, cond, ◌||◌, List, [], ◌∷◌, ◌++◌, length, take, drop, replicate, ℤ, pos, Some, None, Ok, Err, Option, nat_le, nat_lt}
+use Rattle.std.specs.Prelude.{◌≡◌, ℕ, ◌+◌, ◌-◌, Bool, cond, ◌||◌, List, [], ◌∷◌, ◌++◌, length, replicate, ℤ, pos, Some, None, Ok, Err, Option, nat_le, nat_lt}
+use Rattle.std.proofs.Common.{refl}
+use Rattle.std.proofs.lemmas.Bool.{cond_both}
 use Rattle.std.specs.List.{list_all}
 use Rattle.rules.specs.Literals.{in_range, has}
-use Rattle.rules.specs.Rows.{rows, words_of, spelled}
+use Rattle.rules.specs.Rows.{words_of, spelled}
 use Rattle.rules.specs.Drafts.{Reply, reply}
+use Rattle.rules.specs.RowBuffers.{Content, content}
 use Rattle.rules.specs.declared.refusal.Refusal.{Refusal}
 use Rattle.rules.specs.declared.refusal.Refusal.TheVariants.{NoVariable, NoRoom}
 use Rattle.rules.specs.declared.clauses.ClauseBook.{ClauseBook}
@@ -17,14 +20,11 @@ pub record Filling : Type 0 where
   pub draft : List ℤ
   pub fault : Option Refusal
 
+abbrev pub clauses_of : Content → Filling
+clauses_of b = record { variables = b.variables; size = b.size; clauses = b.standing; draft = b.draft; fault = b.fault }
+
 abbrev pub filling : ClauseBook → Filling
-filling b = record {
-  variables = b.variables;
-  size = length b.words.now;
-  clauses = rows (take b.used b.words.now);
-  draft = take b.len (drop b.used b.words.now);
-  fault = b.fault;
-}
+filling b = clauses_of (content b.buffer)
 
 -- its words: the clauses, each with a 0 behind it, the literals of the clause that is being written, and zeros
 abbrev pub all_words : Filling → List ℤ
@@ -58,6 +58,15 @@ noted b l (Some r) = b
 
 abbrev pub pushed : Filling → ℤ → Filling
 pushed b l = cond (in_range b.variables l) (noted b l b.fault) (faulted b NoVariable)
+
+-- a literal takes no word from the book
+pub pushed_size : (b : Filling) (l : ℤ) → (pushed b l).size ≡ b.size
+pushed_size b l = cond_both (in_range b.variables l) (noted b l b.fault) (faulted b NoVariable) (λ k. k.size ≡ b.size) (λ _. by b.fault) (λ _. refl)
+  where
+    by : (f : Option Refusal) → (noted b l f).size ≡ b.size
+    by (Some r) = refl
+    by None = cond_both (has b.draft l) b (written b l) (λ k. k.size ≡ b.size) (λ _. refl)
+        (λ _. cond_both (nat_lt (words_of b.clauses + length b.draft) b.size) (extended b l) (faulted b NoRoom) (λ k. k.size ≡ b.size) (λ _. refl) (λ _. refl))
 
 -- The end of a clause. A clause of k literals has no place where the words do not suffice, or where 65,535 clauses stand.
 abbrev pub no_place : Filling → ℕ → Bool

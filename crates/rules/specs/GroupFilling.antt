@@ -1,11 +1,14 @@
 -- A group book while it is filled.
-use Rattle.std.specs.Prelude.{ℕ, ◌+◌, ◌-◌, min, Bool, cond, List, [], ◌∷◌, ◌++◌, map, length, take, drop, replicate, ℤ, pos, Some, None, Ok, Err, Option, nat_le, nat_lt}
+use Rattle.std.specs.Prelude.{◌≡◌, ℕ, ◌+◌, ◌-◌, min, Bool, cond, List, [], ◌∷◌, ◌++◌, map, length, replicate, ℤ, pos, Some, None, Ok, Err, Option, nat_le, nat_lt}
+use Rattle.std.proofs.Common.{refl}
+use Rattle.std.proofs.lemmas.Bool.{cond_both}
 use Rattle.std.specs.List.{list_all}
 use Rattle.rules.specs.Literals.{var, in_range}
 use Rattle.rules.specs.Books.{Group, rising}
-use Rattle.rules.specs.Rows.{rows, words_of, spelled}
+use Rattle.rules.specs.Rows.{words_of, spelled}
 use Rattle.rules.specs.Drafts.{Reply, reply}
 use Rattle.rules.specs.GroupRows.{as_group, as_row}
+use Rattle.rules.specs.RowBuffers.{Content, content}
 use Rattle.rules.specs.declared.refusal.Refusal.{Refusal}
 use Rattle.rules.specs.declared.refusal.Refusal.TheVariants.{NoVariable, NoRoom, NotRising}
 use Rattle.rules.specs.declared.groups.GroupBook.{GroupBook}
@@ -20,15 +23,11 @@ pub record Filling : Type 0 where
   pub last : ℕ
   pub fault : Option Refusal
 
+abbrev pub groups_of : Content → ℕ → Filling
+groups_of b last = record { variables = b.variables; size = b.size; groups = map as_group b.standing; draft = b.draft; last = last; fault = b.fault }
+
 abbrev pub filling : GroupBook → Filling
-filling b = record {
-  variables = b.variables;
-  size = length b.words.now;
-  groups = map as_group (rows (take b.used b.words.now));
-  draft = take b.len (drop b.used b.words.now);
-  last = b.last;
-  fault = b.fault;
-}
+filling b = groups_of (content b.buffer) b.last
 
 -- its words: a row for each group, each with a 0 behind it, the literals of the group that is being written, and zeros
 abbrev pub all_words : Filling → List ℤ
@@ -72,6 +71,21 @@ fallen b (Some NotRising) = b
 
 abbrev pub pushed : Filling → ℤ → Filling
 pushed b l = cond (in_range b.variables l) (cond (nat_lt b.last (var l)) (risen b l b.fault) (fallen b b.fault)) (faulted b NoVariable)
+
+-- a literal takes no word from the book
+pub pushed_size : (b : Filling) (l : ℤ) → (pushed b l).size ≡ b.size
+pushed_size b l = cond_both (in_range b.variables l) (cond (nat_lt b.last (var l)) (risen b l b.fault) (fallen b b.fault)) (faulted b NoVariable) (λ k. k.size ≡ b.size)
+    (λ _. cond_both (nat_lt b.last (var l)) (risen b l b.fault) (fallen b b.fault) (λ k. k.size ≡ b.size) (λ _. up b.fault) (λ _. down b.fault)) (λ _. refl)
+  where
+    up : (f : Option Refusal) → (risen b l f).size ≡ b.size
+    up (Some r) = refl
+    up None = cond_both (nat_lt (words_of (map as_row b.groups) + length b.draft) b.size) (extended (raised b l) l) (faulted (raised b l) NoRoom) (λ k. k.size ≡ b.size) (λ _. refl) (λ _. refl)
+
+    down : (f : Option Refusal) → (fallen b f).size ≡ b.size
+    down None = refl
+    down (Some NoVariable) = refl
+    down (Some NoRoom) = refl
+    down (Some NotRising) = refl
 
 -- The end of a group. A group of k literals takes k + 2 words.
 abbrev pub no_place : Filling → ℕ → Bool

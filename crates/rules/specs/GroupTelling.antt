@@ -1,16 +1,16 @@
 -- What a sealed book of groups means.
-use Rattle.std.specs.Prelude.{◌≡◌, ℕ, ◌+◌, ◌≤◌, min, Bool, true, false, cond, not, ◌&&◌, List, [], ◌∷◌, map, length, ℤ, neg_ℤ, Some, None, Option, slice_set}
+use Rattle.std.specs.Prelude.{◌≡◌, ℕ, Bool, true, false, cond, not, ◌&&◌, List, map, take, ℤ, neg_ℤ, Some, None, filter, Option}
+use Rattle.std.specs.Borrow.{Bor}
 use Rattle.rules.specs.Sources.{Answer, Answer.silent, Answer.tells, Meaning}
 use Rattle.rules.specs.Books.{Group, over, over_clause, tight, tight_clause, group_book}
 use Rattle.rules.specs.Rows.{rows}
 use Rattle.rules.specs.GroupRows.{as_group, group_row_fits}
-use Rattle.rules.specs.Spans.{span_words}
+use Rattle.rules.specs.Values.{value_in}
 use Rattle.rules.specs.declared.groups.SealedGroups.{SealedGroups}
 use Rattle.rules.specs.declared.literal.Value.{Value}
 use Rattle.rules.specs.declared.literal.Value.TheVariants.{True, False, Unassigned}
-use Rattle.rules.specs.declared.groups.telling.GroupStatus.{GroupStatus}
-use Rattle.rules.specs.declared.groups.telling.GroupStatus.TheVariants.{Over, Tight, Other}
-use Rattle.rules.specs.declared.span.Span.{Span}
+use Rattle.rules.specs.declared.status.ClauseStatus.{ClauseStatus}
+use Rattle.rules.specs.declared.status.ClauseStatus.TheVariants.{Falsified, Unit as UnitOf, Other}
 
 abbrev pub sealed_groups : SealedGroups → Meaning
 sealed_groups b = group_book b.variables (map as_group (rows b.words.now))
@@ -31,25 +31,24 @@ is_value Unassigned True = false
 is_value Unassigned False = false
 is_value Unassigned Unassigned = true
 
--- how a group stands
-abbrev pub group_status : (ℤ → Bool) → Group → GroupStatus
-group_status f G = cond (over f G) Over (cond (tight f G) Tight Other)
+-- how the clause that a group tells stands
+abbrev pub group_status : (ℤ → Bool) → Group → ClauseStatus
+group_status f G = cond (over f G) Falsified (cond (tight f G) UnitOf Other)
 
 -- the clause to tell for a group
 abbrev pub group_clause : (ℤ → Bool) → Group → List ℤ
 group_clause f G = cond (over f G) (over_clause f G) (tight_clause f G)
 
--- the group that was found, as an answer
-abbrev pub group_answer : (ℤ → Bool) → List ℤ → Option Span → Answer
-group_answer f ws None = silent
-group_answer f ws (Some s) = tells (group_clause f (as_group (span_words ws s)))
+-- the group that was found, by its row, as an answer
+abbrev pub group_answer : (ℤ → Bool) → Option (Bor (List ℤ)) → Answer
+group_answer f None = silent
+group_answer f (Some row) = tells (group_clause f (as_group row.now))
 
--- a page with the negation of the first of these literals as the next word of its clause, which has `len` words
-abbrev pub page_with : ℕ → ℕ → List ℤ → List ℤ → List ℤ
-page_with n len page [] = page
-page_with n len page (l ∷ ls) = slice_set page (min (length page) n + len) (neg_ℤ l)
+-- the first m of these literals that have the value
+abbrev pub first_of_value : (ℤ → Bool) → Value → ℕ → List ℤ → List ℤ
+first_of_value f v m ls = take m (filter (λ l. is_value v (value_in f l)) ls)
 
--- what is found lies within the words, and is the row of a group as a book of n variables keeps it
-abbrev pub Fitting : ℕ → List ℤ → Option Span → Type 0
-Fitting n ws None = Unit {0}
-Fitting n ws (Some s) = (s.start ≤ s.end) × (s.end ≤ length ws) × (group_row_fits n (span_words ws s) ≡ true)
+-- what is found is the row of a group as a book of n variables keeps it
+abbrev pub Fitting : ℕ → Option (Bor (List ℤ)) → Type 0
+Fitting n None = Unit {0}
+Fitting n (Some row) = group_row_fits n row.now ≡ true

@@ -1,10 +1,11 @@
 pub mod Literals
 pub mod Clauses
 pub mod Sources
+pub mod SourceLaws
 pub mod Books
 pub mod Rows
 pub mod Drafts
-pub mod Spans
+pub mod RowBuffers
 pub mod ClauseFilling
 pub mod ClauseTelling
 pub mod GroupRows

@@ -1,6 +1,5 @@
 -- Rows of words in one run of words. A row's own words are not 0, and a 0 ends it.
-use Rattle.std.specs.Prelude.{◌≡◌, ℕ, ◌+◌, ◌≤◌, Bool, true, cond, List, [], ◌∷◌, ◌++◌, length, take, drop, ℤ, pos, ◌==◌, unsigned_abs}
-use Rattle.std.specs.List.{list_all}
+use Rattle.std.specs.Prelude.{ℕ, ◌+◌, Bool, true, cond, List, [], ◌∷◌, ◌++◌, length, ℤ, pos, ◌==◌, unsigned_abs}
 
 abbrev pub is_zero : ℤ → Bool
 is_zero w = unsigned_abs w == 0
@@ -30,12 +29,3 @@ words_of (row ∷ rest) = length row + 1 + words_of rest
 abbrev pub spelled : List (List ℤ) → List ℤ
 spelled [] = []
 spelled (row ∷ rest) = row ++ (pos 0 ∷ spelled rest)
-
--- How a book's words lie while it is filled: its rows, which pass `fits`, in the first `used` words; the `len` words of the rule
--- that is being written, which pass `drafts`; and zeros to the end.
-abbrev pub Kept : (List ℤ → Bool) → (List ℤ → Bool) → ℕ → ℕ → List ℤ → Type 0
-Kept fits drafts used len ws = (used + len ≤ length ws)
-    × (ended (take used ws) ≡ true)
-    × (list_all fits (rows (take used ws)) ≡ true)
-    × (drafts (take len (drop used ws)) ≡ true)
-    × (list_all is_zero (drop (used + len) ws) ≡ true)

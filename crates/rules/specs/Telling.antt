@@ -1,9 +1,8 @@
 -- What a source answers, as the code has it.
 use Rattle.rules.specs.Sources.{Answer, Answer.silent, Answer.tells}
-use Rattle.rules.specs.declared.source.Told.{Told}
-use Rattle.rules.specs.declared.source.Told.TheVariants.{Silent, Clause}
-use Rattle.std.specs.Prelude.{length}
+use Rattle.std.specs.Prelude.{ℕ, length, Some, None, Option}
 
-abbrev pub told_of : Answer → Told
-told_of silent = Silent
-told_of (tells C) = Clause (length C)
+-- how many literals the told clause has
+abbrev pub told_of : Answer → Option ℕ
+told_of silent = None
+told_of (tells C) = Some (length C)

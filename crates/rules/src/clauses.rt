@@ -2,35 +2,35 @@
 mod filling;
 mod telling;
 
-ghost use Rattle.std.specs.Prelude.{◌≡◌, true, length, take};
+ghost use Rattle.std.specs.Prelude.{◌≡◌, true, length};
 ghost use Rattle.std.specs.List.{list_all};
-ghost use Rattle.rules.specs.Books.{clause_fits};
-ghost use Rattle.rules.specs.Rows.{Kept, ended, rows};
+ghost use Rattle.rules.specs.Sources.{Lawful};
+ghost use Rattle.rules.specs.SourceLaws.{lawful_prop};
+ghost use Rattle.rules.specs.Books.{clause_fits, clause_book};
+ghost use Rattle.rules.specs.Rows.{ended, rows};
 ghost use Rattle.rules.specs.Drafts.{unless};
+ghost use Rattle.rules.specs.RowBuffers.{content};
 
-use crate::refusal::Refusal;
+use crate::row_buffer::RowBuffer;
 
 /// A book of clauses that is being filled, over lent words.
 ///
-/// A clause takes a word for each of its literals, repeats dropped, and one more. The clauses that stand take the
-/// first `used` words, the clause that is being written the next `len`, and the rest are 0.
+/// A clause is a row of its literals, repeats dropped: it takes a word for each of them, and one more.
 #[derive(Drop)]
 pub struct ClauseBook<'a> {
-    words: &'a mut [i32],
-    variables: u32,
+    buffer: RowBuffer<'a>,
     count: usize,
-    used: usize,
-    len: usize,
-    fault: Option<Refusal>,
-    ghost kept: { Kept (clause_fits variables) (unless fault (clause_fits variables)) used len words.now },
-    ghost counted: { count ≡ length (rows (take used words.now)) },
+    ghost fit: { list_all (clause_fits buffer.variables) (content buffer).standing ≡ true },
+    ghost drafted: { unless buffer.fault (clause_fits buffer.variables) (content buffer).draft ≡ true },
+    ghost counted: { count ≡ length (content buffer).standing },
 }
 
-/// A book of clauses that has been filled. Nothing can be added to it any more; it answers questions.
+/// A book of clauses that has been filled. Nothing can be added to it any more; it answers questions, and is a lawful source.
 #[derive(Clone, Copy)]
 pub struct SealedClauses<'a> {
     words: &'a [i32],
     variables: u32,
     ghost ends: { ended words.now ≡ true },
     ghost fits: { list_all (clause_fits variables) (rows words.now) ≡ true },
+    ghost lawful: { Lawful (clause_book variables (rows words.now)) } by { lawful_prop (clause_book variables (rows words.now)) },
 }

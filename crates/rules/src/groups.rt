@@ -2,37 +2,38 @@
 mod filling;
 mod telling;
 
-ghost use Rattle.std.specs.Prelude.{◌≡◌, ◌≤◌, true};
+ghost use Rattle.std.specs.Prelude.{◌≡◌, ◌≤◌, true, map};
 ghost use Rattle.std.specs.List.{list_all};
-ghost use Rattle.rules.specs.Rows.{Kept, ended, rows};
+ghost use Rattle.rules.specs.Sources.{Lawful};
+ghost use Rattle.rules.specs.SourceLaws.{lawful_prop};
+ghost use Rattle.rules.specs.Books.{group_book};
+ghost use Rattle.rules.specs.Rows.{ended, rows};
 ghost use Rattle.rules.specs.Drafts.{unless};
-ghost use Rattle.rules.specs.GroupRows.{group_row_fits, draft_fits};
+ghost use Rattle.rules.specs.GroupRows.{as_group, group_row_fits, draft_fits};
+ghost use Rattle.rules.specs.RowBuffers.{content};
 
-use crate::refusal::Refusal;
+use crate::row_buffer::RowBuffer;
 
 /// A book of groups that is being filled, over lent words.
 ///
 /// A group says that at most so many of its literals are true. It takes a word for each literal and two more: one for its
-/// limit, which holds the next higher number so that it is not 0, and the 0 that ends the row. The groups that stand take
-/// the first `used` words, the group that is being written the next `len`, and the rest are 0.
+/// limit, which holds the next higher number so that it is not 0, and the 0 that ends the row. `last` is the variable of
+/// the last literal that rose.
 #[derive(Drop)]
 pub struct GroupBook<'a> {
-    words: &'a mut [i32],
-    variables: u32,
-    used: usize,
-    len: usize,
+    buffer: RowBuffer<'a>,
     last: u32,
-    fault: Option<Refusal>,
-    ghost kept: { Kept (group_row_fits variables) (unless fault (draft_fits variables last)) used len words.now },
-    ghost few: { variables ≤ 1000 },
+    ghost fit: { list_all (group_row_fits buffer.variables) (content buffer).standing ≡ true },
+    ghost drafted: { unless buffer.fault (draft_fits buffer.variables last) (content buffer).draft ≡ true },
 }
 
-/// A book of groups that has been filled. Nothing can be added to it any more; it answers questions.
+/// A book of groups that has been filled. Nothing can be added to it any more; it answers questions, and is a lawful source.
 #[derive(Clone, Copy)]
 pub struct SealedGroups<'a> {
     words: &'a [i32],
     variables: u32,
     ghost ends: { ended words.now ≡ true },
     ghost fits: { list_all (group_row_fits variables) (rows words.now) ≡ true },
+    ghost lawful: { Lawful (group_book variables (map as_group (rows words.now))) } by { lawful_prop (group_book variables (map as_group (rows words.now))) },
     ghost few: { variables ≤ 1000 },
 }

@@ -1,7 +1,8 @@
 //! Two sources as one.
 ghost use Rattle.rules.specs.Sources.{joined};
+ghost use Rattle.rules.specs.SourceLaws.{join_lawful};
 
-use crate::source::{Source, Told};
+use crate::source::Source;
 
 /// The join of two sources. Where they have equally many variables, it admits what both admit, and tells what the first
 /// tells, or else the second. Otherwise it has no variable, admits everything and is silent.
@@ -14,6 +15,9 @@ pub struct Join<'a, A, B> {
 impl<A: Source, B: Source> Source for Join<'_, A, B> {
     ghost meaning = { λ join. joined (A.Source.meaning join.first.now) (B.Source.meaning join.second.now) };
 
+    ghost lawful = { λ join. join_lawful (A.Source.meaning join.first.now) (B.Source.meaning join.second.now)
+        (A.Source.lawful join.first.now) (B.Source.lawful join.second.now) };
+
     fn variables(&self) -> u32 {
         let count = self.first.variables();
         if count == self.second.variables() {
@@ -23,13 +27,14 @@ impl<A: Source, B: Source> Source for Join<'_, A, B> {
         }
     }
 
-    fn question(&self, page: &mut [i32]) -> Told {
+    fn question(&self, page: &mut [i32]) -> Option<usize> {
         if self.first.variables() != self.second.variables() {
-            return Told::Silent;
+            return None;
         }
+        // No `or_else`: the proof does not follow a page that a closure changes.
         match self.first.question(page) {
-            Told::Silent => self.second.question(page),
-            Told::Clause(len) => Told::Clause(len),
+            None => self.second.question(page),
+            told => told,
         }
     }
 }

@@ -9,8 +9,7 @@ ghost use Rattle.rules.specs.Values.{value_in};
 pub fn is_in_range(literal: i32, variables: u32) -> bool
     ensures { result ≡ in_range variables literal }
 {
-    let variable = literal.unsigned_abs();
-    1 <= variable && variable <= variables
+    (1..=variables).contains(&literal.unsigned_abs())
 }
 
 /// How many variables a book has that is asked for so many: more than 1,000 count as none.
@@ -33,6 +32,7 @@ pub enum Value {
 pub fn value_of(literal: i32, valuation: &[i32]) -> Value
     ensures { result ≡ value_in (true_in valuation.now) literal }
 {
+    // By index: a chain of `checked_sub` and `get` is no plainer.
     let variable = literal.unsigned_abs() as usize;
     if variable == 0 || variable > valuation.len() {
         return Value::Unassigned;

@@ -13,11 +13,11 @@ pub enum Refusal {
     NotRising = 9,
 }
 
-impl Refusal {
-    /// The number by which the refusal is known.
-    pub fn number(self) -> u8
-        ensures { result ≡ number_of self }
-    {
-        self as u8
+/// The number by which a refusal is known.
+impl From<Refusal> for u8 {
+    ghost from_gives = { λ refusal number. number ≡ number_of refusal };
+
+    fn from(refusal: Refusal) -> u8 {
+        refusal as u8
     }
 }

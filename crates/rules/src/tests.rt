@@ -1,9 +1,10 @@
 //! The books on examples.
+use crate::book::Book;
 use crate::clauses::ClauseBook;
 use crate::groups::GroupBook;
 use crate::join::Join;
 use crate::refusal::Refusal;
-use crate::source::{Source, Told};
+use crate::source::Source;
 use std::test::Fail;
 
 #[test]
@@ -85,9 +86,9 @@ fn the_largest_limit(rt: HostRuntime) -> Result<(), Fail> {
 
 #[test]
 fn the_numbers_of_refusals(rt: HostRuntime) {
-    assert_eq!(rt; Refusal::NoVariable.number(), 2);
-    assert_eq!(rt; Refusal::NoRoom.number(), 8);
-    assert_eq!(rt; Refusal::NotRising.number(), 9);
+    assert_eq!(rt; u8::from(Refusal::NoVariable), 2);
+    assert_eq!(rt; u8::from(Refusal::NoRoom), 8);
+    assert_eq!(rt; u8::from(Refusal::NotRising), 9);
 }
 
 #[test]
@@ -100,13 +101,13 @@ fn the_first_falsified_clause_is_told(rt: HostRuntime) -> Result<(), Fail> {
     book.add(&[-2])?;
     let book = book.seal();
     let mut page = [1, 2, 0, 7, 7, 7];
-    assert_eq!(rt; book.question(&mut page), Told::Clause(2));
+    assert_eq!(rt; book.question(&mut page), Some(2));
     assert_eq!(rt; &page, &[1, 2, 0, -1, -2, 7]);
     let mut page = [1, 0, 0, 7, 7];
-    assert_eq!(rt; book.question(&mut page), Told::Clause(2));
+    assert_eq!(rt; book.question(&mut page), Some(2));
     assert_eq!(rt; &page, &[1, 0, 0, -1, 3]);
     let mut page = [-1, -2, 0, 7];
-    assert_eq!(rt; book.question(&mut page), Told::Silent);
+    assert_eq!(rt; book.question(&mut page), None);
     assert_eq!(rt; &page, &[-1, -2, 0, 7]);
     Ok(())
 }
@@ -118,10 +119,10 @@ fn what_does_not_fit_the_page_is_cut_off(rt: HostRuntime) -> Result<(), Fail> {
     book.add(&[-1, 2])?;
     let book = book.seal();
     let mut page = [1, 0, 7];
-    assert_eq!(rt; book.question(&mut page), Told::Clause(2));
+    assert_eq!(rt; book.question(&mut page), Some(2));
     assert_eq!(rt; &page, &[1, 0, -1]);
     let mut page = [1];
-    assert_eq!(rt; book.question(&mut page), Told::Clause(2));
+    assert_eq!(rt; book.question(&mut page), Some(2));
     assert_eq!(rt; &page, &[1]);
     Ok(())
 }
@@ -134,7 +135,7 @@ fn the_empty_clause_is_always_told(rt: HostRuntime) -> Result<(), Fail> {
     book.add(&[])?;
     let book = book.seal();
     let mut page = [0, 7];
-    assert_eq!(rt; book.question(&mut page), Told::Clause(0));
+    assert_eq!(rt; book.question(&mut page), Some(0));
     assert_eq!(rt; &page, &[0, 7]);
     Ok(())
 }
@@ -146,13 +147,13 @@ fn a_group_tells_the_negations_of_the_true_ones(rt: HostRuntime) -> Result<(), F
     book.add(1, &[1, 2, -3, 4])?;
     let book = book.seal();
     let mut page = [1, 0, -3, 4, 7, 7];
-    assert_eq!(rt; book.question(&mut page), Told::Clause(2));
+    assert_eq!(rt; book.question(&mut page), Some(2));
     assert_eq!(rt; &page, &[1, 0, -3, 4, -1, 3]);
     let mut page = [0, -2, -3, 0, 7, 7];
-    assert_eq!(rt; book.question(&mut page), Told::Clause(2));
+    assert_eq!(rt; book.question(&mut page), Some(2));
     assert_eq!(rt; &page, &[0, -2, -3, 0, 3, -1]);
     let mut page = [-1, -2, 3, 0, 7, 7];
-    assert_eq!(rt; book.question(&mut page), Told::Silent);
+    assert_eq!(rt; book.question(&mut page), None);
     Ok(())
 }
 
@@ -172,10 +173,10 @@ fn a_join_asks_the_first_and_then_the_second(rt: HostRuntime) -> Result<(), Fail
     };
     assert_eq!(rt; both.variables(), 2);
     let mut page = [-1, -2, 7, 7];
-    assert_eq!(rt; both.question(&mut page), Told::Clause(2));
+    assert_eq!(rt; both.question(&mut page), Some(2));
     assert_eq!(rt; &page, &[-1, -2, 1, 2]);
     let mut page = [1, 2, 7, 7];
-    assert_eq!(rt; both.question(&mut page), Told::Clause(2));
+    assert_eq!(rt; both.question(&mut page), Some(2));
     assert_eq!(rt; &page, &[1, 2, -1, -2]);
     Ok(())
 }
@@ -194,7 +195,7 @@ fn a_join_of_unequal_counts_is_silent(rt: HostRuntime) -> Result<(), Fail> {
     };
     assert_eq!(rt; both.variables(), 0);
     let mut page = [7, 7];
-    assert_eq!(rt; both.question(&mut page), Told::Silent);
+    assert_eq!(rt; both.question(&mut page), None);
     assert_eq!(rt; &page, &[7, 7]);
     Ok(())
 }

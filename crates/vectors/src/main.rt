@@ -5,13 +5,12 @@
 #![tactic(auto)]
 
 ghost use Rattle.std.specs.Prelude.{◌≡◌, ◌≤◌, length, IfOk};
-ghost use Rattle.vectors.specs.declared.ProgramFault.TheVariants.{Reading};
 
 use anyhow::anyhow;
 use rulefile::books::read_rest;
-use rulefile::faults::{BookFault, FormFault};
-use rulefile::form::{Natural, read_variables};
-use rulefile::words::{Position, Reader};
+use rulefile::faults::{Fault, Layer};
+use rulefile::form::read_variables;
+use rulefile::words::Reader;
 use rules::clauses::ClauseBook;
 use rules::groups::GroupBook;
 use std::io;
@@ -23,23 +22,11 @@ const MOST_BYTES: usize = 262_144;
 /// The most variables of a file.
 const MOST_VARIABLES: u32 = 64;
 
+/// The number of this program's own fault, that a file has too many variables.
+const TOO_MANY_VARIABLES: u8 = 1;
+
 /// What stands behind each file.
 const SEPARATOR: u8 = 30;
-
-/// A file's fault, or that it has too many variables.
-#[derive(Clone, Copy)]
-enum ProgramFault {
-    Reading(BookFault),
-    Variables(Position),
-}
-
-impl From<BookFault> for ProgramFault {
-    ghost from_gives = { λ f r. r ≡ Reading f };
-
-    fn from(fault: BookFault) -> ProgramFault {
-        ProgramFault::Reading(fault)
-    }
-}
 
 fn main(rt: HostRuntime) -> anyhow::Result<()> {
     run(&rt)
@@ -55,15 +42,9 @@ fn run(rt: &HostRuntime) -> anyhow::Result<()> {
     let mut clauses = ClauseBook::open(&mut clause_words, 0);
     let mut group_words = [0; 2_048];
     let mut groups = GroupBook::open(&mut group_words, 0);
-    let text = &buffer[0..used];
-    let mut start = 0;
-    for (place, byte) in text.iter().enumerate() {
-        if *byte == SEPARATOR && start <= place {
-            print_outcome(
-                rt,
-                read_file(&text[start..place], &mut clauses, &mut groups),
-            )?;
-            start = place + 1;
+    for file in buffer[..used].split_inclusive(|byte| *byte == SEPARATOR) {
+        if let [text @ .., SEPARATOR] = file {
+            print_outcome(rt, read_file(text, &mut clauses, &mut groups))?;
         }
     }
     Ok(())
@@ -73,6 +54,7 @@ fn run(rt: &HostRuntime) -> anyhow::Result<()> {
 fn fill(input: &mut impl Read, buffer: &mut [u8]) -> io::Result<usize>
     ensures { IfOk result (λ n. n ≤ length buffer.old) }
 {
+    // The library reads to the end into a Vec only, and nothing is allocated here.
     let mut used = 0;
     while used < buffer.len() {
         let count = input.read(&mut buffer[used..])?;
@@ -89,32 +71,24 @@ fn read_file(
     text: &[u8],
     clauses: &mut ClauseBook<'_>,
     groups: &mut GroupBook<'_>,
-) -> Result<(), ProgramFault> {
+) -> Result<(), Fault> {
     let mut reader = Reader::new(text);
-    let variables = read_head(&mut reader)?;
+    let variables = read_variables(&mut reader)?;
     if variables.value > MOST_VARIABLES {
-        return Err(ProgramFault::Variables(variables.at));
+        return Err(Fault {
+            number: TOO_MANY_VARIABLES,
+            layer: Layer::Program,
+            at: variables.at,
+        });
     }
     read_rest(reader, variables.value, clauses, groups)?;
     Ok(())
 }
 
-/// The head of a file up to its number of variables.
-fn read_head(reader: &mut Reader<'_>) -> Result<Natural, BookFault> {
-    Ok(read_variables(reader)?)
-}
-
 /// Prints what a file came to.
-fn print_outcome(rt: &HostRuntime, outcome: Result<(), ProgramFault>) -> io::Result<()> {
+fn print_outcome(rt: &HostRuntime, outcome: Result<(), Fault>) -> io::Result<()> {
     match outcome {
         Ok(()) => println!(rt; "accepted"),
-        Err(ProgramFault::Variables(at)) => println!(rt; "refused 1 4 {} {}", at.line, at.place),
-        Err(ProgramFault::Reading(fault)) => println!(rt;
-            "refused {} {} {} {}",
-            fault.number(),
-            fault.layer(),
-            fault.line(),
-            fault.place()
-        ),
+        Err(fault) => println!(rt; "refused {fault}"),
     }
 }

@@ -38,15 +38,39 @@ const LIMIT: u32 = 3;
 
 const PIECES: usize = 100;
 
-/// What a search came to: how many pieces and steps it took, its verdict, and for each variable whether it is true in the
-/// model and whether it is named as an assumption.
+/// What each variable says where it is true, the first at index 0.
+const FACTS: [&str; COUNT] = [
+    "the worker takes step 1",
+    "the worker takes step 2",
+    "the worker takes step 3",
+    "the worker takes step 4",
+    "the worker finds the queue empty",
+    "the wakeup comes before the sleep",
+    "the worker holds the lock from its check to its sleep",
+    "a second worker is idle",
+];
+
+/// How many pieces and steps a search took.
 #[derive(Clone, Copy)]
-struct Finding {
+struct Effort {
     pieces: u32,
     steps: u32,
+}
+
+/// What a search came to: its effort, its verdict, and for each variable whether it is true in the model and whether it is
+/// named as an assumption.
+#[derive(Clone, Copy)]
+struct Finding {
+    effort: Effort,
     verdict: Verdict,
     values: [bool; COUNT],
     named: [bool; COUNT],
+}
+
+/// A session that has searched, and what it found.
+struct Investigation<'a> {
+    session: Idle<'a>,
+    finding: Finding,
 }
 
 fn main(rt: HostRuntime) -> anyhow::Result<()> {
@@ -56,26 +80,26 @@ fn main(rt: HostRuntime) -> anyhow::Result<()> {
 fn run(rt: &HostRuntime) -> anyhow::Result<()> {
     let mut clause_words = [0; 32];
     let mut clauses = ClauseBook::open(&mut clause_words, VARIABLES);
-    if fill_clauses(&mut clauses).is_err() {
-        return Err(anyhow!("the clauses do not fit their words"));
-    }
+    fill_clauses(&mut clauses).map_err(|_| anyhow!("the clauses do not fit their words"))?;
     let mut group_words = [0; 12];
     let mut groups = GroupBook::open(&mut group_words, VARIABLES);
-    if fill_groups(&mut groups).is_err() {
-        return Err(anyhow!("the groups do not fit their words"));
-    }
+    fill_groups(&mut groups).map_err(|_| anyhow!("the groups do not fit their words"))?;
     let clauses = clauses.seal();
     let groups = groups.seal();
     let rules = Join {
         first: &clauses,
         second: &groups,
     };
-    let mut without = nothing_found();
-    let mut with = nothing_found();
     let mut words = [0; WORDS];
     let session = Idle::open(&mut words, VARIABLES, SLOTS);
-    let session = investigate(session, &rules, &[5, 6, 8], &mut without);
-    let session = investigate(session, &rules, &[5, 6, 7, 8], &mut with);
+    let Investigation {
+        session,
+        finding: without,
+    } = investigate(session, &rules, &[5, 6, 8]);
+    let Investigation {
+        session,
+        finding: with,
+    } = investigate(session, &rules, &[5, 6, 7, 8]);
     session.close();
     println!(rt;
         "A worker checks a queue, then sleeps. A producer pushes a job, then wakes the worker."
@@ -102,84 +126,85 @@ fn fill_groups(book: &mut GroupBook) -> Result<(), Refusal> {
     book.add(2, &[-1, -2, -3, -4])
 }
 
-fn nothing_found() -> Finding {
-    Finding {
-        pieces: 0,
-        steps: 0,
-        verdict: Verdict::Open,
-        values: [false; COUNT],
-        named: [false; COUNT],
-    }
-}
-
-/// Searches under these assumptions, and notes what was found.
+/// Searches under these assumptions, and says what was found.
 fn investigate<'a, S: Source>(
-    session: Idle<'a>,
+    mut session: Idle<'a>,
     rules: &S,
     assumptions: &[i32],
-    finding: &mut Finding,
-) -> Idle<'a> {
-    let mut session = session;
+) -> Investigation<'a> {
     session.clear();
     for literal in assumptions {
         let _ = session.assume(*literal);
     }
-    let mut scratch = [0; COUNT];
-    let settled = run_in_pieces(session.begin(), rules, &mut scratch, finding);
-    note(&settled, finding);
-    settled.reopen()
+    let mut search = session.begin();
+    let effort = run_in_pieces(&mut search, rules);
+    let settled = search.settle();
+    let finding = Finding {
+        effort,
+        verdict: settled.verdict(),
+        values: model_of(&settled),
+        named: named_by(&settled),
+    };
+    Investigation {
+        session: settled.reopen(),
+        finding,
+    }
 }
 
 /// Runs the search piece by piece until it has ended.
-fn run_in_pieces<'a, S: Source>(
-    search: Search<'a>,
-    rules: &S,
-    scratch: &mut [u8],
-    finding: &mut Finding,
-) -> Settled<'a> {
-    let weigher = ByStanding {};
-    let mut search = search;
+fn run_in_pieces<S: Source>(search: &mut Search, rules: &S) -> Effort {
+    let mut scratch = [0; COUNT];
+    let mut effort = Effort {
+        pieces: 0,
+        steps: 0,
+    };
     for _ in 0..PIECES {
-        search = search.run(LIMIT, rules, &[], &weigher, scratch);
-        let Some(Ok(report)) = search.answer() else {
+        let Ok(report) = search.run(LIMIT, rules, &[], &ByStanding, &mut scratch) else {
             break;
         };
-        finding.pieces = finding.pieces.saturating_add(1);
-        finding.steps = finding.steps.saturating_add(report.steps);
+        effort.pieces = effort.pieces.saturating_add(1);
+        effort.steps = effort.steps.saturating_add(report.steps);
         if report.verdict.has_ended() {
             break;
         }
     }
-    search.settle()
+    effort
 }
 
-/// Notes the verdict, the values of a model and the assumptions that a refutation names.
-fn note(settled: &Settled, finding: &mut Finding) {
-    finding.verdict = settled.verdict();
-    for i in 0..COUNT {
-        finding.values[i] = settled.value(i as u32 + 1).unwrap_or(false);
-        finding.named[i] = settled.named(i as i32 + 1).unwrap_or(false);
+/// For each variable whether it is true in the model; all false where there is none.
+fn model_of(settled: &Settled) -> [bool; COUNT] {
+    let mut values = [false; COUNT];
+    for (variable, value) in (1..=VARIABLES).zip(values.iter_mut()) {
+        *value = settled.value(variable).unwrap_or(false);
     }
+    values
+}
+
+/// For each variable whether it is named as an assumption; all false where nothing is refuted.
+fn named_by(settled: &Settled) -> [bool; COUNT] {
+    let mut named = [false; COUNT];
+    for (literal, is_named) in (1..=VARIABLES as i32).zip(named.iter_mut()) {
+        *is_named = settled.named(literal).unwrap_or(false);
+    }
+    named
 }
 
 fn print_finding(rt: &HostRuntime, title: &str, finding: &Finding) -> io::Result<()> {
     println!(rt)?;
-    let steps = finding.steps;
-    let pieces = finding.pieces;
+    let Effort { pieces, steps } = finding.effort;
     println!(rt; "{title}, after {steps} steps in {pieces} pieces:")?;
     match finding.verdict {
         Verdict::Model => print_schedule(rt, &finding.values),
         Verdict::Refuted => print_named(rt, &finding.named),
-        _ => println!(rt; "  it is not known yet."),
+        Verdict::Open | Verdict::Paused => println!(rt; "  it is not known yet."),
     }
 }
 
-/// Prints the schedule of a model.
+/// Prints the schedule of a model: who takes each of the four steps.
 fn print_schedule(rt: &HostRuntime, values: &[bool; COUNT]) -> io::Result<()> {
     println!(rt; "  this schedule loses the wakeup:")?;
-    for i in 0..4 {
-        let step = i + 1;
-        let who = if values[i] { "worker" } else { "producer" };
+    for (step, is_worker) in (1..=4).zip(values) {
+        let who = if *is_worker { "worker" } else { "producer" };
         println!(rt; "  {step}. the {who}")?;
     }
     Ok(())
@@ -188,25 +213,10 @@ fn print_schedule(rt: &HostRuntime, values: &[bool; COUNT]) -> io::Result<()> {
 /// Prints the assumptions that cannot all be.
 fn print_named(rt: &HostRuntime, named: &[bool; COUNT]) -> io::Result<()> {
     println!(rt; "  no schedule loses the wakeup. These cannot all be:")?;
-    for i in 0..COUNT {
-        if named[i] {
-            let fact = in_words(i);
+    for (fact, is_named) in FACTS.iter().zip(named) {
+        if *is_named {
             println!(rt; "  - {fact}")?;
         }
     }
     Ok(())
-}
-
-/// What the variable of an index says.
-fn in_words(index: usize) -> &'static str {
-    match index {
-        0 => "the worker takes step 1",
-        1 => "the worker takes step 2",
-        2 => "the worker takes step 3",
-        3 => "the worker takes step 4",
-        4 => "the worker finds the queue empty",
-        5 => "the wakeup comes before the sleep",
-        6 => "the worker holds the lock from its check to its sleep",
-        _ => "a second worker is idle",
-    }
 }

@@ -16,8 +16,7 @@ impl<'a> Reader<'a> {
     {
         Reader {
             text,
-            cursor: 0,
-            line: 1,
+            at: Position { line: 1, place: 0 },
             mode: Mode::Fresh,
         }
     }
@@ -27,37 +26,45 @@ impl<'a> Reader<'a> {
         ensures ahead { ahead self.old ≡ took (seen result) (ahead self.new) }
         ensures left { ahead self.new ≡ left_after (ahead self.old) }
     {
-        let text = self.text;
-        let (cursor, line) = skip(text, self.cursor, self.line, self.mode);
-        let rest = &text[cursor..];
-        let length = run_length(rest);
-        self.cursor = cursor + length;
-        self.line = line;
-        self.mode = Mode::Inside;
-        let at = Position {
-            line,
-            place: cursor,
-        };
-        if cursor == text.len() {
+        self.skip_gap();
+        let at = self.at;
+        let rest = &self.text[at.place..];
+        if rest.is_empty() {
             return Ok(Token::End(at));
         }
-        token(Word {
-            text: &rest[0..length],
-            at,
-        })
+        let word = &rest[..run_length(rest)];
+        self.at.place += word.len();
+        self.mode = Mode::Inside;
+        token(Word { text: word, at })
+    }
+
+    /// Goes to where the next word begins, or to the text's end.
+    fn skip_gap(&mut self)
+        ensures stops { self.new.at.place < length self.new.text.now → is_gap (slice_index self.new.text.now self.new.at.place) ≡ false }
+        ensures spot { gap self.old.mode self.old.at.place self.old.at.line (drop self.old.at.place self.old.text.now) ≡ spot self.new.at.place self.new.at.line (drop self.new.at.place self.new.text.now) }
+    {
+        for byte in &self.text[self.at.place..] {
+            let Some(mode) = pass(self.mode, *byte) else {
+                return;
+            };
+            self.mode = mode;
+            self.at.place += 1;
+            if *byte == b'\n' {
+                self.at.line += 1;
+            }
+        }
     }
 }
 
 /// A word as a token: its first byte says whether it is meant as a number.
 fn token(word: Word<'_>) -> Result<Token<'_>, WordFault>
-    requires { 0 < length word.text.now }
     ensures { seen result ≡ word_seen word.entry.text.now word.entry.at }
 {
-    match class_of(word.text[0]) {
-        Class::Digit | Class::Minus => match read_number(word.text) {
-            Ok(value) => Ok(Token::Number(word, value)),
-            Err(kind) => Err(WordFault { kind, at: word.at }),
-        },
+    match word.text {
+        [first, ..] if matches!(class_of(*first), Class::Digit | Class::Minus) => {
+            let value = read_number(word.text).map_err(|kind| WordFault { kind, at: word.at })?;
+            Ok(Token::Number(word, value))
+        }
         _ => Ok(Token::Other(word)),
     }
 }
@@ -66,10 +73,7 @@ fn token(word: Word<'_>) -> Result<Token<'_>, WordFault>
 fn is_gap(byte: u8) -> bool
     ensures { result ≡ is_gap byte }
 {
-    match class_of(byte) {
-        Class::Blank | Class::LineEnd => true,
-        _ => false,
-    }
+    matches!(class_of(byte), Class::Blank | Class::LineEnd)
 }
 
 /// How many bytes at the front are of a word.
@@ -77,11 +81,10 @@ fn run_length(bytes: &[u8]) -> usize
     ensures within { result ≤ length bytes.now }
     ensures value { result ≡ run bytes.now }
 {
-    let mut n = 0;
-    while n < bytes.len() && !is_gap(bytes[n]) {
-        n += 1;
-    }
-    n
+    bytes
+        .iter()
+        .position(|byte| is_gap(*byte))
+        .unwrap_or(bytes.len())
 }
 
 /// How a gap goes on after the byte, or none where a word begins.
@@ -92,39 +95,7 @@ fn pass(mode: Mode, byte: u8) -> Option<Mode>
         (_, Class::LineEnd) => Some(Mode::Fresh),
         (Mode::Comment, _) => Some(Mode::Comment),
         (_, Class::Blank) => Some(Mode::Inside),
-        (Mode::Fresh, Class::Other) => {
-            if byte == b'c' {
-                Some(Mode::Comment)
-            } else {
-                None
-            }
-        }
+        (Mode::Fresh, Class::Other) if byte == b'c' => Some(Mode::Comment),
         _ => None,
     }
-}
-
-/// Where the next word begins, or the text ends, and in which line.
-fn skip(text: &[u8], from: usize, first: usize, start: Mode) -> (usize, usize)
-    requires inside { from ≤ length text.now }
-    requires counted { first ≤ from + 1 }
-    ensures inside { result.0 ≤ length text.now }
-    ensures counted { result.1 ≤ result.0 + 1 }
-    ensures stops { result.0 < length text.now → is_gap (slice_index text.now result.0) ≡ false }
-    ensures spot { gap start from first (drop from text.now) ≡ spot result.0 result.1 (drop result.0 text.now) }
-{
-    let mut cursor = from;
-    let mut line = first;
-    let mut mode = start;
-    while cursor < text.len() {
-        let byte = text[cursor];
-        let Some(next) = pass(mode, byte) else {
-            break;
-        };
-        if byte == b'\n' {
-            line += 1;
-        }
-        mode = next;
-        cursor += 1;
-    }
-    (cursor, line)
 }

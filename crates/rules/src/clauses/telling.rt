@@ -1,38 +1,32 @@
 //! What a sealed book of clauses tells.
 ghost use Rattle.std.specs.Prelude.{◌≡◌};
-ghost use Rattle.rules.specs.ClauseTelling.{sealed_clauses, span_answer};
-ghost use Rattle.rules.specs.Spans.{Within};
+ghost use Rattle.rules.specs.ClauseTelling.{sealed_clauses, row_answer};
 
 use crate::clauses::SealedClauses;
 use crate::literal::value_of;
-use crate::source::{Source, Told, tell, valuation};
-use crate::span::Span;
+use crate::source::{Source, tell, valuation};
 use crate::status::ClauseStatus;
 
 impl SealedClauses<'_> {
     /// The first falsified clause, or else the first unit one.
-    fn first_asserting(&self, valuation: &[i32]) -> Option<Span>
-        ensures clause { span_answer self.now.words.now result ≡ (sealed_clauses self.now).answer valuation.now }
-        ensures within { Within self.now.words.now result }
+    fn first_asserting(&self, valuation: &[i32]) -> Option<&[i32]>
+        ensures { row_answer result ≡ (sealed_clauses self.now).answer valuation.now }
     {
         let mut found = None;
-        let mut at = 0;
-        'clauses: while at < self.words.len() {
-            let start = at;
+        'clauses: for row in self.words.split_inclusive(|word| *word == 0) {
+            let clause = &row[..row.len() - 1];
             let mut status = ClauseStatus::Falsified;
-            'literals: while self.words[at] != 0 {
-                status = status.with(value_of(self.words[at], valuation));
-                at += 1;
+            for literal in clause {
+                status = status.with(value_of(*literal, valuation));
             }
             match status {
                 ClauseStatus::Falsified => {
-                    found = Some(Span { start, end: at });
+                    found = Some(clause);
                     break 'clauses;
                 }
-                ClauseStatus::Unit => found = found.or(Some(Span { start, end: at })),
+                ClauseStatus::Unit => found = found.or(Some(clause)),
                 ClauseStatus::Other => {}
             }
-            at += 1;
         }
         found
     }
@@ -41,14 +35,14 @@ impl SealedClauses<'_> {
 impl Source for SealedClauses<'_> {
     ghost meaning = { sealed_clauses };
 
+    ghost lawful = { λ book. book.lawful };
+
     fn variables(&self) -> u32 {
         self.variables
     }
 
-    fn question(&self, page: &mut [i32]) -> Told {
-        match self.first_asserting(valuation(page, self.variables)) {
-            None => Told::Silent,
-            Some(Span { start, end }) => tell(page, self.variables, &self.words[start..end]),
-        }
+    fn question(&self, page: &mut [i32]) -> Option<usize> {
+        let clause = self.first_asserting(valuation(page, self.variables))?;
+        Some(tell(page, self.variables, clause))
     }
 }

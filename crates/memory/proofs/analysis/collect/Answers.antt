@@ -1,28 +1,13 @@
-use Rattle.std.proofs.Common.{◌≡◌, not, ◌&&◌, eqb, length, neg_ℤ, nat_abs, sym, ap, ◌∙◌, subst, arith, rules}
+use Rattle.std.proofs.Common.{◌≡◌, not, ◌&&◌, eqb, neg_ℤ, nat_abs, sym, ap, ◌∙◌, subst, arith, rules}
 use Rattle.memory.specs.Words.{word_at, value_at, clause_at, Wrote}
 use Rattle.memory.specs.Decode.{trail_of}
 use Rattle.memory.specs.Analysis.{held, set_of}
-use Rattle.memory.proofs.Collecting.{Collected, collected_none, collected_skip, collected_add, value_small}
+use Rattle.memory.proofs.Collecting.{Collected, collected_none, collected_skip, collected_add}
 use Rattle.memory.proofs.analysis.collect.Goals as goal
 use Rattle.memory.proofs.analysis.collect.Goals.{then-is_left, else-is_left}
 
 pub loop-x-init : goal.loop-x-init
 loop-x-init c = (collected_none _ _ _, c.requires.coherent)
-
-pub put_negated-requires : goal.put_negated-requires
-put_negated-requires c =
-    let i = c.loop-x.invariant in
-    let n = c.args.layout.variables in
-    let x = c.loop-x.x in
-    let big = i.1.big in
-    let m = i.0.most in
-    let z = c.args.layout.small in
-    let e = c.clause.ensures in
-    let l : length c.loop-x.words ≡ length c.args.words.now = search rules in
-    let v = i.0.out.below (value_at n x) (omega arith) ∙ i.1.values x c.loop-x-test.true in
-    let s = value_small (trail_of n c.args.len c.args.words.now) x in
-    let a = ap nat_abs v in
-    record { from = omega arith; to = omega arith; small = omega arith }
 
 pub loop-x-preserved : goal.loop-x-preserved
 loop-x-preserved c =
@@ -36,9 +21,8 @@ loop-x-preserved c =
     let t = c.is_left.ensures ∙ ap (λ z. B x && not (eqb (nat_abs z) 0)) v in
     elim c.if-is_left.branch [
       | then-is_left w ↦
-          let a = subst (λ z. Wrote (clause_at n c.loop-x.count) (neg_ℤ z) ws w.put_negated.new.words) v
-          (subst (λ z. Wrote z (neg_ℤ (word_at ws (value_at n x))) ws w.put_negated.new.words) w.clause.ensures w.put_negated.ensures) in
-          rw (w.words-is, w.count-is) (collected_add _ _ _ _ _ B _ _ i.1 c.loop-x-test.true i.0 _ (sym t ∙ w.if-is_left.true) a, i.1)
+          let a : Wrote (clause_at n c.loop-x.count) (neg_ℤ (word_at was (value_at n x))) ws c.if-is_left.words = search rules in
+          rw w.count-is (collected_add _ _ _ _ _ B _ _ i.1 c.loop-x-test.true i.0 _ (sym t ∙ w.if-is_left.true) a, i.1)
       | else-is_left w ↦ rw (w.words-is, w.count-is) (collected_skip _ _ _ _ _ B _ _ i.1 c.loop-x-test.true i.0 (sym t ∙ w.if-is_left.false), i.1)
     ]
 

@@ -1,17 +1,11 @@
-use Rattle.std.proofs.Common.{◌+◌, arith, rules}
-use Rattle.memory.specs.Words.{word_at}
+use Rattle.std.proofs.Common.{arith, rules}
+use Rattle.std.proofs.lemmas.Grind.{common_steps}
 use Rattle.memory.proofs.Words.{counted_same}
 use Rattle.memory.proofs.Clearing.{empty_sound}
 use Rattle.memory.proofs.fresh.empty.Goals as goal
 
-pub returns : goal.returns
-returns c =
-    let n = c.args.layout.variables in
-    let z = c.zero_from.ensures in
-    let was = c.args.words.now in
-    let now = c.zero_from.new.words in
-    record {
-      zero = z.zero;
-      assumptions = λ count h. counted_same (word_at now) (word_at was) 0 0 count (λ i l. z.before (0 + i) (omega arith));
-      sound = λ count h r. empty_sound n _ count was now (search rules) h z.zero z.before r;
-    }
+pub returns-clause-assumptions : goal.returns-clause-assumptions
+returns-clause-assumptions c = λ count h. counted_same _ _ 0 0 count (λ i l. grind (arith, common_steps))
+
+pub returns-clause-sound : goal.returns-clause-sound
+returns-clause-sound c = λ count h r. empty_sound c.args.layout.variables _ count _ _ (search rules) h (λ i k. grind (arith, common_steps)) (λ i k. grind (arith, common_steps)) r

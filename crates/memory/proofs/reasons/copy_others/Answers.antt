@@ -1,23 +1,12 @@
-use Rattle.std.proofs.Common.{◌≡◌, ◌+◌, length, sym, ap, ◌∙◌, subst, arith, rules}
+use Rattle.std.proofs.Common.{◌≡◌, ◌+◌, true, false, sym, ap, ◌∙◌, subst, arith, rules}
 use Rattle.rules.specs.Literals.{same}
 use Rattle.memory.specs.Words.{word_at, Wrote}
-use Rattle.memory.proofs.Implying.{Copied, places_apart, copied_none, copied_skip, copied_keep, room_left}
+use Rattle.memory.proofs.Implying.{Copied, copied_none, copied_skip, copied_keep}
 use Rattle.memory.proofs.reasons.copy_others.Goals as goal
-use Rattle.memory.proofs.reasons.copy_others.Goals.{then-not-same_at, else-not-same_at}
+use Rattle.memory.proofs.reasons.copy_others.Goals.{then-words-from, else-words-from}
 
 pub loop-i-init : goal.loop-i-init
 loop-i-init c = copied_none _ _ _ _ _ c.requires.among.0
-
-pub put_copy-requires : goal.put_copy-requires
-put_copy-requires c =
-    let ws = c.loop-i.words in
-    let p = c.requires.behind in
-    let q = c.requires.room in
-    let h = c.requires.among.1 in
-    let e : length ws ≡ length c.args.words.now = search rules in
-    let d = places_apart ws (c.args.from + c.loop-i.i) c.args.at (sym c.same_at.ensures ∙ c.if-not-same_at.true) in
-    let r = room_left _ _ _ _ _ _ _ _ c.loop-i.invariant c.requires.among.0 h c.loop-i-test.true d in
-    (omega arith, omega arith)
 
 pub loop-i-preserved : goal.loop-i-preserved
 loop-i-preserved c =
@@ -29,12 +18,15 @@ loop-i-preserved c =
     let h = c.requires.among.1 in
     let ea = v.out.below a (omega arith) in
     let eb = v.out.below c.args.at (omega arith) in
-    let t = c.same_at.ensures ∙ ap (λ x. same x (word_at ws c.args.at)) ea ∙ ap (same (word_at was a)) eb in
-    elim c.if-not-same_at.branch [
-      | then-not-same_at w ↦
-          let o = subst (λ x. Wrote (c.args.to + c.loop-i.count) x ws w.put_copy.new.words) ea w.put_copy.ensures in
-          rw (w.words-is, w.count-is) (copied_keep _ _ _ _ _ _ _ _ v _ c.requires.among.0 h c.loop-i-test.true (sym t ∙ w.if-not-same_at.true) o)
-      | else-not-same_at w ↦ rw (w.words-is, w.count-is) (copied_skip _ _ _ _ _ _ _ _ v (sym t ∙ w.if-not-same_at.false))
+    let t = ap (λ x. same x (word_at ws c.args.at)) ea ∙ ap (same (word_at was a)) eb in
+    elim c.if-words-from.branch [
+      | then-words-from w ↦
+          let q : same (word_at ws a) (word_at ws c.args.at) ≡ false = search rules in
+          let o : Wrote (c.args.to + c.loop-i.count) (word_at was a) ws c.if-words-from.words = rw (← ea) (search rules) in
+          rw w.count-is (copied_keep _ _ _ _ _ _ _ _ v _ c.requires.among.0 h c.loop-i-test.true (sym t ∙ q) o)
+      | else-words-from w ↦
+          let q : same (word_at ws a) (word_at ws c.args.at) ≡ true = search rules in
+          rw (w.words-is, w.count-is) (copied_skip _ _ _ _ _ _ _ _ v (sym t ∙ q))
     ]
 
 pub returns : goal.returns

@@ -1,4 +1,4 @@
-use Rattle.std.proofs.Common.{refl, ◌∙◌}
+use Rattle.std.proofs.Common.{refl, ◌∙◌, rules}
 use Rattle.std.proofs.lemmas.Result.{err_from_is_err_and}
 use Rattle.rules.specs.GroupFilling.{filling}
 use Rattle.rulefile.proofs.RuleLaws.{group_first, group_broken, group_ended}
@@ -13,11 +13,11 @@ returns-in_err-first c =
       sized = refl;
     }
 
-pub returns-in_err-push_group : goal.returns-in_err-push_group
-returns-in_err-push_group c =
-    let p = err_from_is_err_and c.from_residual-in_err-push_group.result c.from_residual-in_err-push_group.ensures.1 in
+pub returns-in_err-push_literals : goal.returns-in_err-push_literals
+returns-in_err-push_literals c =
+    let p = err_from_is_err_and c.from_residual-in_err-push_literals.result c.from_residual-in_err-push_literals.ensures.1 in
     let b = filling c.args.book.now in
-    let pushed = c.in_err-push_group.ensures in
+    let pushed = c.in_err-push_literals.ensures in
     record {
       read = group_first b _ _ _ _ c.in_ok-limit.ensures.taken _ c.in_ok-first.ensures.taken ∙ group_broken _ b _ _ _ pushed.pushed ∙ (rw (p.1, p.2) refl);
       sized = pushed.sized;
@@ -26,9 +26,9 @@ returns-in_err-push_group c =
 pub returns : goal.returns
 returns c =
     let b = filling c.args.book.now in
-    let pushed = c.in_ok-push_group.ensures in
+    let pushed = c.in_ok-push_literals.ensures in
     record {
       read = group_first b _ _ _ _ c.in_ok-limit.ensures.taken _ c.in_ok-first.ensures.taken
-          ∙ group_ended _ b c.requires _ _ _ _ pushed.pushed _ c.end.ensures.answer _ c.end.ensures.after _ c.placed.ensures;
-      sized = group_settled_size (filling c.push_group.new.book) (filling c.end.new.self) _ c.end.result c.end.ensures.after ∙ pushed.sized;
+          ∙ group_ended _ b c.requires _ _ _ _ pushed.pushed _ c.end.ensures.answer _ c.end.ensures.after _ (search rules);
+      sized = group_settled_size (filling c.push_literals.new.book) (filling c.end.new.self) _ c.end.result c.end.ensures.after ∙ pushed.sized;
     }

@@ -12,6 +12,6 @@ returns c =
     let front : c.copy_from_slice.new.self ≡ take k C = search rules in
     let e : start + k - start ≡ k = omega arith in
     record {
-      told = refl;
+      count = refl;
       page = ap (λ ys. put_mid start (start + k - start) page ys) front ∙ ap (λ j. put_mid start j page (take k C)) e ∙ page_told c.args.variables page C start k c.min-start.ensures c.min-fits.ensures;
     }

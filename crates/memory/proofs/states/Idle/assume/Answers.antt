@@ -14,6 +14,7 @@ returns-then-not-is_in_range c =
       answer = outside_answer s.layout.variables s.layout.slots (standing s) l (length (standing s)) out;
       assumptions = refl;
       promised = outside_promised s.layout.variables s.layout.slots (standing s) l out;
+      unchanged = refl;
       layout = refl;
       size = refl;
     }
@@ -31,6 +32,7 @@ returns-then-self c =
       answer = full_answer n s.layout.slots (standing s) l (length (standing s)) r full;
       assumptions = refl;
       promised = full_promised n s.layout.slots (standing s) l r full;
+      unchanged = refl;
       layout = refl;
       size = refl;
     }
@@ -63,6 +65,7 @@ returns c =
       answer = joined_answer n s.layout.slots (standing s) l (length (standing s)) r some;
       assumptions = more;
       promised = joined_promised n s.layout.slots (standing s) l r some _ more;
+      unchanged = tt;
       layout = refl;
       size = search rules;
     }

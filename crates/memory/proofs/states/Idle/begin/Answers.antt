@@ -8,7 +8,7 @@ use Rattle.memory.proofs.states.Idle.begin.Goals as goal
 pub invariant_of-result : goal.invariant_of-result
 invariant_of-result c =
     let s = c.args.self in
-    record { alive = ∣ record { stands = c.empty.ensures.sound s.assumptions s.few (all_ranged s.layout.variables s.assumptions s.words.now s.ranged); denied = tt } ∣₁ }
+    record { sound = c.empty.ensures.sound s.assumptions s.few (all_ranged s.layout.variables s.assumptions s.words.now s.ranged) }
 
 pub returns : goal.returns
 returns c =

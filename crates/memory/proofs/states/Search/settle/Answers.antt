@@ -7,4 +7,4 @@ use Rattle.memory.proofs.states.Search.settle.Goals as goal
 pub returns : goal.returns
 returns c =
     let s = c.args.self in
-    record { search = refl; promised = promised s.layout.variables s.layout.slots (search_state s) settle done (settled (searched s)) tt settles; layout = refl; verdict = refl; size = refl }
+    record { search = refl; promised = promised s.memory.layout.variables s.memory.layout.slots (search_state s) settle done (settled (searched s)) tt settles; layout = refl; verdict = refl; size = refl }

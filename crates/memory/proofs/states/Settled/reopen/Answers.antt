@@ -4,21 +4,20 @@ use Rattle.memory.specs.Decode.{assumptions_of}
 use Rattle.memory.specs.Sessions.{settled_state}
 use Rattle.memory.proofs.Calling.{ranged_all}
 use Rattle.memory.proofs.Promising.{promised}
-use Rattle.memory.proofs.Props.{alive_of}
 use Rattle.memory.proofs.states.Settled.reopen.Goals as goal
 
 pub invariant_of-result : goal.invariant_of-result
 invariant_of-result c =
     let s = c.args.self in
-    let so = (alive_of s.layout s.extent s.failed s.words.now s.alive).stands in
-    record { room = so.coherent.big; few = so.few; ranged = ranged_all s.layout.variables s.extent.assumptions s.words.now so.ranged }
+    let so = s.memory.sound in
+    record { room = so.coherent.big; few = so.few; ranged = ranged_all s.memory.layout.variables s.memory.extent.assumptions s.memory.words.now so.ranged }
 
 pub returns : goal.returns
 returns c =
     let s = c.args.self in
     record {
       assumptions = refl;
-      promised = promised s.layout.variables s.layout.slots (settled_state s) reopen done (idle (assumptions_of s.extent.assumptions s.words.now)) tt reopens;
+      promised = promised s.memory.layout.variables s.memory.layout.slots (settled_state s) reopen done (idle (assumptions_of s.memory.extent.assumptions s.memory.words.now)) tt reopens;
       layout = refl;
       size = refl;
     }

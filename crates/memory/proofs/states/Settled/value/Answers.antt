@@ -4,7 +4,6 @@ use Rattle.rules.proofs.Literals.{bounds_range}
 use Rattle.theory.specs.Trail.{on}
 use Rattle.memory.specs.Decode.{trail_of}
 use Rattle.memory.proofs.Calling.{range_low, range_high, no_model_promised, no_value_promised, value_promised}
-use Rattle.memory.proofs.Props.{alive_of}
 use Rattle.memory.proofs.states.Settled.value.Goals as goal
 use Rattle.memory.proofs.states.Settled.value.Goals.{then-variable-eq0-via-then-variable-eq0, then-variable-eq0-via-else-variable-eq0+then-variable-self}
 
@@ -14,7 +13,7 @@ returns-in_default c = let h = no_model_promised c.args.self.now c.args.variable
 pub returns-then-variable-eq0 : goal.returns-then-variable-eq0
 returns-then-variable-eq0 c =
     let s = c.args.self.now in
-    let n = s.layout.variables in
+    let n = s.memory.layout.variables in
     let v = c.args.variable in
     let out : in_range n (pos v) ≡ false = elim c.then-variable-eq0.branch [
       | then-variable-eq0-via-then-variable-eq0 w ↦ range_low n v w.if-variable-eq0.true
@@ -28,18 +27,17 @@ is_true-requires c =
     let s = c.args.self.now in
     let some = c.if-variable-eq0.false in
     let most = c.if-variable-self.false in
-    ((alive_of s.layout s.extent s.failed s.words.now s.alive).stands.coherent.big, omega arith)
+    omega arith
 
 pub returns : goal.returns
 returns c =
     let s = c.args.self.now in
-    let n = s.layout.variables in
+    let n = s.memory.layout.variables in
     let v = c.args.variable in
     let some = c.if-variable-eq0.false in
     let most = c.if-variable-self.false in
     let low : 1 ≤ v = omega arith in
     let r = bounds_range n (pos v) low most in
     let next : suc (v - 1) ≡ v = omega arith in
-    let so = (alive_of s.layout s.extent s.failed s.words.now s.alive).stands in
-    let h = value_promised s v c.in-Model.is r c.is_true.result (c.is_true.ensures s.extent.trail so.coherent ∙ ap (λ w. on (trail_of n s.extent.trail s.words.now) (pos w)) next) in
+    let h = value_promised s v c.in-Model.is r c.is_true.result (c.is_true.ensures ∙ ap (λ w. on (trail_of n s.memory.extent.trail s.memory.words.now) (pos w)) next) in
     record { answer = h.0; promised = h.1 }

@@ -6,4 +6,4 @@ use Rattle.memory.proofs.Promising.{promised}
 use Rattle.memory.proofs.states.Settled.verdict.Goals as goal
 
 pub returns : goal.returns
-returns c = let s = c.args.self.now in record { answer = refl; promised = promised s.layout.variables s.layout.slots (settled_state s) verdict (found (verdict_of s.verdict)) (settled_state s) tt finds }
+returns c = let s = c.args.self.now in record { answer = refl; promised = promised s.memory.layout.variables s.memory.layout.slots (settled_state s) verdict (found (verdict_of s.verdict)) (settled_state s) tt finds }

@@ -1,36 +1,24 @@
-use Rattle.std.proofs.Common.{◌+◌, map, length, take, set, ℤ, sym, refl, ap, ◌∙◌, subst, arith, w32, SFits, rules}
-use Rattle.std.proofs.lemmas.List.{length-set}
-use Rattle.std.proofs.lemmas.Int.{to_z-of_z}
-use Rattle.rules.specs.Rows.{Kept, rows}
-use Rattle.rules.specs.Drafts.{unless}
-use Rattle.rules.specs.GroupRows.{as_group, group_row_fits, draft_fits}
-use Rattle.rules.specs.GroupFilling.{filling, no_place, most_of}
-use Rattle.rules.proofs.DraftLaws.{reply_ok}
-use Rattle.rules.proofs.GroupFillings.{same_parts, book_room, book_ended}
+use Rattle.std.proofs.Common.{◌≡◌, ◌+◌, ◌<◌, pos, sym, ap, ◌∙◌, subst, rules}
+use Rattle.rules.specs.RowBuffers.{content, free, pushed, joined}
+use Rattle.rules.specs.GroupFilling.{groups_of, most_of}
+use Rattle.rules.proofs.GroupFillings.{Kept, limit_room, kept_ended, group_ended}
 use Rattle.rules.proofs.groups.GroupBook.end.Goals as goal
 
-pub bounds-self-self : goal.bounds-self-self
-bounds-self-self c = omega (arith, book_room c.args.self.now (sym c.in_default.ensures))
-
-pub invariant_of-self : goal.invariant_of-self
-invariant_of-self c =
+pub join-requires : goal.join-requires
+join-requires c =
     let b = c.args.self.now in
-    let f : SFits w32 c.limit_word.result = search rules in
-    record {
-      kept = subst (λ (w : ℤ). Kept (group_row_fits b.variables) (unless b.fault (draft_fits b.variables 0)) (b.used + (b.len + 2)) 0 (set b.words.now (b.used + b.len) w))
-          (sym (to_z-of_z w32 c.limit_word.result f ∙ c.limit_word.ensures)) (book_ended b (most_of c.args.limit) (sym c.in_default.ensures)).0;
-      few = b.few;
-    }
+    let e : content c.push.new.self ≡ pushed (content b.buffer) (pos (most_of c.args.limit + 1)) = search rules in
+    subst (λ d. 0 < free d) (sym e) (limit_room (content b.buffer) b.last _ (b.fit, b.drafted) _ c.lacks_place-full.ensures (sym c.in_ok-admit.ensures.answer))
 
-pub returns : goal.returns
-returns c =
+pub invariant_of-self-2 : goal.invariant_of-self-2
+invariant_of-self-2 c =
     let b = c.args.self.now in
-    let e = sym c.in_default.ensures in
-    let f : SFits w32 c.limit_word.result = search rules in
-    record {
-      answer = c.in_default.ensures;
-      after = same_parts refl (length-set b.words.now (b.used + b.len) _)
-          (ap (λ (w : ℤ). map as_group (rows (take (b.used + (b.len + 2)) (set b.words.now (b.used + b.len) w)))) (to_z-of_z w32 c.limit_word.result f ∙ c.limit_word.ensures)
-          ∙ (book_ended b (most_of c.args.limit) e).1)
-          refl refl (reply_ok b.fault (no_place (filling b) (length (filling b).draft)) e).0;
-    }
+    let e : content c.join.new.self ≡ joined (pushed (content b.buffer) (pos (most_of c.args.limit + 1))) = search rules in
+    let kept = subst (Kept 0) (sym e) (kept_ended (content b.buffer) b.last _ (b.fit, b.drafted) _ c.lacks_place-full.ensures (sym c.in_ok-admit.ensures.answer)) in
+    record { fit = kept.0; drafted = kept.1 }
+
+pub returns-clause-after : goal.returns-clause-after
+returns-clause-after c =
+    let b = c.args.self.now in
+    let e : content c.join.new.self ≡ joined (pushed (content b.buffer) (pos (most_of c.args.limit + 1))) = search rules in
+    ap (λ d. groups_of d 0) e ∙ group_ended (content b.buffer) b.last _ (b.fit, b.drafted) _ c.lacks_place-full.ensures (sym c.in_ok-admit.ensures.answer)

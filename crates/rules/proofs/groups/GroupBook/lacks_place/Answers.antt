@@ -1,7 +1,7 @@
-use Rattle.std.proofs.Common.{◌+◌, leb, sym, ap}
-use Rattle.rules.specs.GroupFilling.{filling}
-use Rattle.rules.proofs.GroupFillings.{book_end}
+use Rattle.std.proofs.Common.{ltb, ap, ◌∙◌}
+use Rattle.rules.specs.RowBuffers.{content}
+use Rattle.rules.proofs.GroupFillings.{groups_full}
 use Rattle.rules.proofs.groups.GroupBook.lacks_place.Goals as goal
 
 pub returns : goal.returns
-returns c = let b = c.args.self.now in ap (λ k. leb (filling b).size (k + 1)) (sym (book_end b))
+returns c = let b = c.args.self.now in ap (λ k. ltb k 2) c.free.ensures ∙ groups_full (content b.buffer) b.last b.fit

@@ -1,6 +1,7 @@
-use Rattle.std.proofs.Common.{◌∙◌, arith, take_all}
-use Rattle.rules.proofs.GroupFillings.{book_spelled}
+use Rattle.std.proofs.Common.{◌∙◌}
+use Rattle.rules.specs.RowBuffers.{content}
+use Rattle.rules.proofs.GroupFillings.{groups_spelled}
 use Rattle.rules.proofs.groups.GroupBook.words.Goals as goal
 
 pub returns : goal.returns
-returns c = let b = c.args.self.now in take_all _ b.words.now (omega arith) ∙ book_spelled b
+returns c = let b = c.args.self.now in c.words.ensures ∙ groups_spelled (content b.buffer) b.last b.fit
