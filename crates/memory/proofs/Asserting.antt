@@ -1,15 +1,13 @@
 -- A unit clause: its literal is the first that has no value, and may be placed.
-use Rattle.std.proofs.Common.{◌≡◌, ℕ, zero, suc, ◌≤◌, true, false, not, eqb, List, ℤ, pos, negsuc, neg_ℤ, nat_abs, All, sym, ◌∙◌, arith}
-use Rattle.std.proofs.lemmas.Bool.{not-true, and_parts, and_from, not_from_false}
-use Rattle.rules.specs.Literals.{var, same, in_range}
+use Rattle.std.proofs.Common.{◌≡◌, ℕ, true, not, List, ℤ, neg_ℤ, All}
+use Rattle.std.proofs.lemmas.Bool.{not-true}
+use Rattle.rules.specs.Literals.{same, in_range}
 use Rattle.rules.specs.Clauses.{Status.unit, status}
 use Rattle.rules.proofs.Literals.{all_has, has_all}
 use Rattle.rules.proofs.Statuses.{kept_in, unit_at}
-use Rattle.theory.specs.Trail.{Entry.implied, Trail, on, Placeable, word}
+use Rattle.theory.specs.Trail.{Entry.implied, Trail, on, Placeable}
 use Rattle.theory.specs.Conflict.{others_of}
 use Rattle.theory.proofs.Trails.{parts_free}
-use Rattle.memory.specs.Words.{index_of}
-use Rattle.memory.proofs.Valuing.{open_is}
 
 -- the literal of a unit clause may be placed
 pub unit_placeable : (n : ℕ) (t : Trail) (C : List ℤ) → All (λ l. in_range n l ≡ true) C → (l : ℤ) → status (on t) C ≡ unit l → Placeable n t (implied l (others_of l C))

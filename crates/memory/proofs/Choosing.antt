@@ -14,7 +14,7 @@ use Rattle.memory.specs.Words.{word_at, clause_at, index_of, trail_at, row_at, O
 use Rattle.memory.specs.Decode.{entry_of, entry_at, trail_of, slot_of, slots_of, Marked, Coherent, clause_of}
 use Rattle.memory.proofs.Words.{words_same}
 use Rattle.memory.proofs.Decode.{literal_of, entry_same, outside_trail}
-use Rattle.memory.specs.Candidates.{by_total, position_with, is_touched, decision_at, PlaceWithin}
+use Rattle.memory.specs.Candidates.{by_total, position_with, is_touched, decision_at}
 
 pub touched_decided : (t : Trail) (C : List ℤ) (e : Entry) → Decided ≡ standing e → is_touched t C e ≡ touches t (literal e) C
 touched_decided t C (assumed l) h = let z : ◌≡◌ {A = ℕ} 0 1 = cc in absurd (omega arith)

@@ -2,7 +2,7 @@
 use Rattle.std.proofs.Common.{◌≡◌, ℕ, zero, suc, ◌+◌, ◌*◌, ◌<◌, ◌≤◌, Bool, true, false, cond, not, ◌&&◌, eqb, List, [], ◌∷◌, ◌++◌, ℤ, pos, negsuc, neg_ℤ, nat_abs, filter, sym, refl, ap, ◌∙◌, subst, inl, inr, add-zero, zero-add, add-one, arith}
 use Rattle.std.proofs.lemmas.List.{append-nil}
 use Rattle.std.proofs.lemmas.List.Elements.{filter-append}
-use Rattle.std.proofs.lemmas.Bool.{cond_both, ne_eqb, cases_Bool, and_right}
+use Rattle.std.proofs.lemmas.Bool.{ne_eqb, cases_Bool, and_right}
 use Rattle.theory.specs.Trail.{Trail, literal, on, WellFormed, word}
 use Rattle.theory.specs.Conflict.{literals_from, learned}
 use Rattle.theory.proofs.Trails.{not_both, on_top, on_below}

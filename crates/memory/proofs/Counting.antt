@@ -1,5 +1,5 @@
 -- Sets of false literals by their variables, and how many of them are marked.
-use Rattle.std.proofs.Common.{◌≡◌, ℕ, ◌+◌, Bool, true, false, not, ◌&&◌, ◌||◌, eqb, ◌≢◌, List, [], ◌∷◌, ◌++◌, ℤ, neg_ℤ, sym, refl, ap, ◌∙◌, subst, inl, inr, arith}
+use Rattle.std.proofs.Common.{◌≡◌, ℕ, ◌+◌, Bool, true, false, not, ◌&&◌, ◌||◌, eqb, ◌≢◌, List, [], ◌∷◌, ℤ, neg_ℤ, sym, refl, ap, ◌∙◌, subst, inl, inr, arith}
 use Rattle.std.proofs.lemmas.List.Elements.{All-head, All-tail}
 use mathlib.Core.Path.{fun_ext}
 use mathlib.Core.Bool.{false≢true}
@@ -7,7 +7,7 @@ use lib.IntN.{neg_ℤ-neg_ℤ}
 use Rattle.std.proofs.lemmas.List.FromFn.{map-range_with_len_more}
 use Rattle.std.proofs.lemmas.Bool.{eq-eqb, ne_eqb, or_cases, both_ways, cases_Bool}
 use Rattle.std.proofs.Math.Bool.{or_assoc, or-false}
-use Rattle.rules.specs.Literals.{same, has, any_pass}
+use Rattle.rules.specs.Literals.{same, has}
 use Rattle.rules.proofs.Literals.{same_true, eq_same, all_has, any_push}
 use Rattle.theory.specs.Trail.{Entry, Trail, literal, on, WellFormed}
 use Rattle.theory.specs.Conflict.{resolved}

@@ -115,6 +115,7 @@ impl Memory<'_> {
             ≡ both_count (marked_index self.now.layout.variables self.now.words.now) (held scratch.new) (trail_of self.now.layout.variables place self.now.words.now) }
         ensures small { result ≤ k }
     {
+        // Not by `sum`: each addend changes the scratch.
         let mut new: usize = 0;
         for literal in &self.words[base..base + k] {
             new += self.include(index_of(*literal), scratch);

@@ -36,6 +36,7 @@ impl Memory<'_> {
         ensures marked { PlaceMarked self.old.layout.variables self.old.extent.trail self.old.words.now self.new.words.now result }
         ensures frame { Framed (5 * self.old.layout.variables) self.old.layout.variables self.old self.new }
     {
+        // Not by `find`: each look at a place changes the marks.
         for place in (0..self.extent.trail).rev() {
             if self.touched_at(place, k) {
                 return Some(place);

@@ -1,8 +1,8 @@
 //! Where the words of a session stand, and how each is read and written.
-ghost use Rattle.std.specs.Prelude.{◌≡◌, ◌+◌, ◌*◌, ◌<◌, ◌≤◌, length, pos};
+ghost use Rattle.std.specs.Prelude.{◌≡◌, ◌+◌, ◌*◌, ◌<◌, ◌≤◌, length, pos, unsigned_abs};
 ghost use Rattle.rules.specs.Literals.{var};
 ghost use Rattle.memory.specs.Words.{word_at, index_of, trail_at, value_at, clause_at, mark_at, row_at, size, Wrote};
-ghost use Rattle.memory.specs.Decode.{standing_of, standing_word, bit, marked_index, reason_count};
+ghost use Rattle.memory.specs.Decode.{standing_of, standing_word, bit, marked_index};
 
 use weights::weigher::Standing;
 
@@ -39,6 +39,7 @@ pub(crate) fn put_copy(words: &mut [i32], from: usize, to: usize)
 }
 
 /// A standing as a word.
+// A session has its lent words alone, so a standing and a mark are words there; each is turned into one here and nowhere else.
 fn word_of(standing: Standing) -> i32
     ensures { result ≡ standing_word standing }
 {
@@ -60,7 +61,7 @@ fn standing_of(word: i32) -> Standing
     }
 }
 
-// Each of these asks that all the words are there.
+// Those that read or write a word ask that all the words are there.
 impl Layout {
     /// Where word `k` of a row stands.
     pub(crate) fn row(self, index: usize, k: usize) -> usize
@@ -140,12 +141,12 @@ impl Layout {
         words[self.row(index, 0)] = word_of(standing);
     }
 
-    /// How many other literals a variable's reason has.
-    pub(crate) fn reason_count(self, words: &[i32], index: usize) -> usize
-        requires { (index < self.variables) × ((size self.variables self.slots ≤ length words.now) × (1 ≤ self.variables)) }
-        ensures { result ≡ reason_count self.variables words.now index }
+    /// The number in word `k` of a row.
+    pub(crate) fn count(self, words: &[i32], index: usize, k: usize) -> usize
+        requires { (index < self.variables + self.slots) × ((k ≤ self.variables) × (size self.variables self.slots ≤ length words.now)) }
+        ensures { result ≡ unsigned_abs (word_at words.now (row_at self.variables index k)) }
     {
-        words[self.row(index, 1)].unsigned_abs() as usize
+        words[self.row(index, k)].unsigned_abs() as usize
     }
 
     /// Where the other literals of a variable's reason begin.

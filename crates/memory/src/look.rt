@@ -13,6 +13,7 @@ use crate::memory::Memory;
 use rules::source::Source;
 
 /// How a found clause stands: all its literals are false, or all but the one of this number, from 0, whose variable is unassigned.
+// No Option: the two cases are the statuses that the rules speak of, and `Falsified` says more than `None`.
 #[derive(Clone, Copy, PartialEq, Eq, Debug)]
 pub enum Assertion {
     Falsified,
@@ -49,6 +50,7 @@ impl Memory<'_> {
         ensures whole { TakenWhole self.old.layout.variables self.new.words.now result }
         ensures frame { Framed (4 * self.old.layout.variables) self.old.layout.variables self.old self.new }
     {
+        // No `or_else`: the proof does not follow words that a closure changes.
         match self.ask(source) {
             None => self.recall_first(),
             told => told,
@@ -73,6 +75,7 @@ impl Memory<'_> {
         ensures { StandsSo self.now.layout.variables (trail_in self.now) self.now.words.now count result }
     {
         let n = self.layout.variables;
+        // A match, since the proof goes by its two cases.
         match first_unassigned(&self.words[4 * n..4 * n + count], &self.words[3 * n..4 * n]) {
             Some(open) => Assertion::Unit(open),
             None => Assertion::Falsified,

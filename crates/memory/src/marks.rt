@@ -49,9 +49,10 @@ impl Memory<'_> {
             (entry_at self.now.layout.variables self.now.words.now place) }
     {
         let x = self.variable(place);
-        match self.layout.standing(self.words, x) {
-            Standing::Implied => self.any_marked(self.layout.reason(x), self.reason_count(x)),
-            _ => self.layout.literal(self.words, root) == self.layout.literal(self.words, place),
+        if self.layout.standing(self.words, x) == Standing::Implied {
+            self.any_marked(self.layout.reason(x), self.reason_count(x))
+        } else {
+            self.layout.literal(self.words, root) == self.layout.literal(self.words, place)
         }
     }
 

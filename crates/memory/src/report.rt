@@ -34,10 +34,7 @@ impl Verdict {
     pub fn has_ended(self) -> bool
         ensures { result ≡ has_ended self }
     {
-        match self {
-            Verdict::Open | Verdict::Paused => false,
-            Verdict::Model | Verdict::Refuted => true,
-        }
+        matches!(self, Verdict::Model | Verdict::Refuted)
     }
 }
 

@@ -45,6 +45,7 @@ impl Memory<'_> {
         ensures first { learned_at self.now.layout.variables self.now.words.now result ≡ look_after silent (trail_in self.now) (slots_in self.now) }
         ensures within { WithinCount self.now.extent.slots result }
     {
+        // Goes by the slots' numbers: a slot is a part of the words, and its number is what is answered.
         let mut unit = None;
         for s in 0..self.extent.slots {
             match self.slot_status(s) {
@@ -87,6 +88,7 @@ impl Memory<'_> {
         ensures is { result ≡ slot_count self.now.layout.variables self.now.words.now slot }
         ensures few { result ≤ self.now.layout.variables }
     {
-        self.words[self.layout.row(self.layout.variables + slot, 0)].unsigned_abs() as usize
+        self.layout
+            .count(self.words, self.layout.variables + slot, 0)
     }
 }

@@ -62,7 +62,7 @@ impl Memory<'_> {
         requires { x < self.now.layout.variables }
         ensures { result ≡ reason_count self.now.layout.variables self.now.words.now x }
     {
-        self.layout.reason_count(self.words, x)
+        self.layout.count(self.words, x, 1)
     }
 }
 

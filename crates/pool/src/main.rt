@@ -85,6 +85,7 @@ fn fill_clauses(book: &mut ClauseBook) -> Result<(), Refusal> {
 }
 
 /// Each of the two takes at most two of the four steps.
+// Each program stands by itself, with the rules of its pool.
 fn fill_groups(book: &mut GroupBook) -> Result<(), Refusal> {
     book.add(2, &[1, 2, 3, 4])?;
     book.add(2, &[-1, -2, -3, -4])
@@ -103,14 +104,12 @@ fn ask<S: Source>(rt: &HostRuntime, rules: &S, question: &str, known: &[i32]) ->
     }
     match rules.question(&mut page) {
         None => println!(rt; "  No rule is broken and none says more: the wakeup is lost."),
-        Some(len) => print_clause(rt, &page, len),
+        Some(len) => print_clause(rt, &page[COUNT..COUNT + len.min(COUNT)], &page[0..COUNT]),
     }
 }
 
-/// Prints a told clause: what follows from the rest, or that the rest cannot all be.
-fn print_clause(rt: &HostRuntime, page: &[i32; 2 * COUNT], len: usize) -> io::Result<()> {
-    let valuation = &page[0..COUNT];
-    let clause = &page[COUNT..COUNT + len.min(COUNT)];
+/// Prints a clause that was told under the valuation: what follows from the rest, or that the rest cannot all be.
+fn print_clause(rt: &HostRuntime, clause: &[i32], valuation: &[i32]) -> io::Result<()> {
     let open = clause.iter().find(|literal| value_of(**literal, valuation) == Value::Unassigned);
     if let Some(literal) = open {
         let fact = in_words(*literal);

@@ -1,4 +1,4 @@
--- What a fault names: its number, its layer (1 words, 2 form, 3 books), its line and its place.
+-- What a fault names: its number, its layer (1 words, 2 form, 3 books, 4 a program above them), its line and its place.
 use Rattle.std.specs.Prelude.{ℕ, List, ◌∷◌, ◌++◌}
 use Rattle.std.specs.Fmt.{decimal}
 use Rattle.rules.specs.Drafts.{number_of}
@@ -14,7 +14,7 @@ use Rattle.rulefile.specs.declared.faults.BookFault.{BookFault}
 use Rattle.rulefile.specs.declared.faults.BookFault.TheVariants as B
 use Rattle.rulefile.specs.declared.faults.Layer.{Layer}
 use Rattle.rulefile.specs.declared.faults.Layer.TheVariants.{Words, Form, Books, Program}
-use Rattle.rulefile.specs.declared.faults.Fault.{Fault as Told}
+use Rattle.rulefile.specs.declared.faults.Fault.{Fault as Described}
 
 pub record Fault : Type 0 where
   pub number : ℕ
@@ -54,7 +54,7 @@ layer_number Books = 3
 layer_number Program = 4
 
 -- what is told of a fault
-abbrev pub named : Told → Fault
+abbrev pub named : Described → Fault
 named f = fault f.number (layer_number f.layer) f.at
 
 -- a fault in print: its numbers, with a space between each two

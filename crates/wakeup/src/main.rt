@@ -11,7 +11,7 @@
 #![tactic(auto)]
 
 use anyhow::anyhow;
-use memory::report::Verdict;
+use memory::report::{self, Verdict};
 use memory::{Idle, Search, Settled};
 use rules::clauses::ClauseBook;
 use rules::groups::GroupBook;
@@ -57,14 +57,22 @@ struct Effort {
     steps: u32,
 }
 
-/// What a search came to: its effort, its verdict, and for each variable whether it is true in the model and whether it is
-/// named as an assumption.
+/// What a search came to.
+#[derive(Clone, Copy)]
+enum Outcome {
+    /// A model: for each variable whether it is true.
+    Schedule([bool; COUNT]),
+    /// A refutation: for each variable whether it is named as an assumption.
+    Refutation([bool; COUNT]),
+    /// Neither yet.
+    Unknown,
+}
+
+/// What was found, and with how much effort.
 #[derive(Clone, Copy)]
 struct Finding {
     effort: Effort,
-    verdict: Verdict,
-    values: [bool; COUNT],
-    named: [bool; COUNT],
+    outcome: Outcome,
 }
 
 /// A session that has searched, and what it found.
@@ -121,6 +129,7 @@ fn fill_clauses(book: &mut ClauseBook) -> Result<(), Refusal> {
 }
 
 /// Each of the two takes at most two of the four steps.
+// Each program stands by itself, with the rules of its pool.
 fn fill_groups(book: &mut GroupBook) -> Result<(), Refusal> {
     book.add(2, &[1, 2, 3, 4])?;
     book.add(2, &[-1, -2, -3, -4])
@@ -141,9 +150,7 @@ fn investigate<'a, S: Source>(
     let settled = search.settle();
     let finding = Finding {
         effort,
-        verdict: settled.verdict(),
-        values: model_of(&settled),
-        named: named_by(&settled),
+        outcome: outcome_of(&settled),
     };
     Investigation {
         session: settled.reopen(),
@@ -171,32 +178,36 @@ fn run_in_pieces<S: Source>(search: &mut Search, rules: &S) -> Effort {
     effort
 }
 
-/// For each variable whether it is true in the model; all false where there is none.
-fn model_of(settled: &Settled) -> [bool; COUNT] {
-    let mut values = [false; COUNT];
-    for (variable, value) in (1..=VARIABLES).zip(values.iter_mut()) {
-        *value = settled.value(variable).unwrap_or(false);
+/// What the settled search came to.
+fn outcome_of(settled: &Settled) -> Outcome {
+    match settled.verdict() {
+        Verdict::Model => {
+            Outcome::Schedule(each_variable(|variable| settled.value(variable.unsigned_abs())))
+        }
+        Verdict::Refuted => Outcome::Refutation(each_variable(|variable| settled.named(variable))),
+        Verdict::Open | Verdict::Paused => Outcome::Unknown,
     }
-    values
 }
 
-/// For each variable whether it is named as an assumption; all false where nothing is refuted.
-fn named_by(settled: &Settled) -> [bool; COUNT] {
-    let mut named = [false; COUNT];
-    for (literal, is_named) in (1..=VARIABLES as i32).zip(named.iter_mut()) {
-        *is_named = settled.named(literal).unwrap_or(false);
+/// For each variable what is told of it; false where that is refused.
+fn each_variable<F: Fn(i32) -> Result<bool, report::Refusal>>(tell: F) -> [bool; COUNT]
+    requires { F.IsAlwaysCallable tell }
+{
+    let mut told = [false; COUNT];
+    for (variable, place) in (1..=VARIABLES as i32).zip(told.iter_mut()) {
+        *place = tell(variable).unwrap_or(false);
     }
-    named
+    told
 }
 
 fn print_finding(rt: &HostRuntime, title: &str, finding: &Finding) -> io::Result<()> {
     println!(rt)?;
     let Effort { pieces, steps } = finding.effort;
     println!(rt; "{title}, after {steps} steps in {pieces} pieces:")?;
-    match finding.verdict {
-        Verdict::Model => print_schedule(rt, &finding.values),
-        Verdict::Refuted => print_named(rt, &finding.named),
-        Verdict::Open | Verdict::Paused => println!(rt; "  it is not known yet."),
+    match &finding.outcome {
+        Outcome::Schedule(values) => print_schedule(rt, values),
+        Outcome::Refutation(named) => print_named(rt, named),
+        Outcome::Unknown => println!(rt; "  it is not known yet."),
     }
 }
 

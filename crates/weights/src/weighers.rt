@@ -27,6 +27,7 @@ impl<W: Scale> Table<'_, W> {
     fn weight_at(&self, entry: usize) -> W
         ensures { result ≡ slice_index_or self.now.weights.now entry W.Scale.zero }
     {
+        // A match, here and below: the checker does not cover `map_or_else` with the scale's `zero`.
         match self.weights.get(entry) {
             Some(weight) => *weight,
             None => W::zero(),

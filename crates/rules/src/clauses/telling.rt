@@ -12,6 +12,7 @@ impl SealedClauses<'_> {
     fn first_asserting(&self, valuation: &[i32]) -> Option<&[i32]>
         ensures { row_answer result ≡ (sealed_clauses self.now).answer valuation.now }
     {
+        // A rule of the project: this search is a nested loop over clauses and literals, left by its label.
         let mut found = None;
         'clauses: for row in self.words.split_inclusive(|word| *word == 0) {
             let clause = &row[..row.len() - 1];
