@@ -16,16 +16,6 @@ use Rattle.memory.proofs.Words.{words_same}
 use Rattle.memory.proofs.Decode.{literal_of, entry_same, outside_trail}
 use Rattle.memory.specs.Candidates.{by_total, position_with, is_touched, decision_at}
 
-pub touched_decided : (t : Trail) (C : List ℤ) (e : Entry) → Decided ≡ standing e → is_touched t C e ≡ touches t (literal e) C
-touched_decided t C (assumed l) h = let z : ◌≡◌ {A = ℕ} 0 1 = cc in absurd (omega arith)
-touched_decided t C (decided l) h = refl
-touched_decided t C (implied l others) h = let z : ◌≡◌ {A = ℕ} 0 1 = cc in absurd (omega arith)
-
-pub touched_not : (t : Trail) (C : List ℤ) (e : Entry) → (standing e ≡ Decided → ⊥) → is_touched t C e ≡ false
-touched_not t C (assumed l) h = refl
-touched_not t C (decided l) h = absurd (h refl)
-touched_not t C (implied l others) h = refl
-
 -- the touched decisions of a part of the trail
 abbrev pub decisions_in : Trail → List ℤ → Trail → List ℤ
 decisions_in t C part = filter (λ d. touches t d C) (decided_literals part)

@@ -72,9 +72,6 @@ impl Memory<'_> {
         ensures marked { result ≡ true → Marked self.old.layout.variables (trail_in self.old) (in_chunk (literal_at self.old.layout.variables self.old.words.now place) (trail_in self.old)) self.new.words.now }
         ensures frame { Framed (5 * self.old.layout.variables) self.old.layout.variables self.old self.new }
     {
-        match self.standing_at(place) {
-            Standing::Decided => self.mark_touched(place, k),
-            _ => false,
-        }
+        self.standing_at(place) == Standing::Decided && self.mark_touched(place, k)
     }
 }

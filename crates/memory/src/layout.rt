@@ -31,6 +31,7 @@ pub(crate) fn index_of(literal: i32) -> usize
 }
 
 /// Writes a copy of one word to another place.
+// A function for one caller, `conclude`: its proof goes by what is promised here.
 pub(crate) fn put_copy(words: &mut [i32], from: usize, to: usize)
     requires { (from < length words.old) × (to < length words.old) }
     ensures { Wrote to (word_at words.old from) words.old words.new }

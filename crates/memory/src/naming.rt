@@ -62,10 +62,8 @@ impl Memory<'_> {
         requires { in_range self.now.layout.variables literal ≡ true }
         ensures { result ≡ has (filter (marked self.now.layout.variables self.now.words.now) (assumed_literals (trail_in self.now))) literal }
     {
-        match self.value(literal) {
-            Value::True => self.is_marked_as(index_of(literal), Standing::Assumed),
-            _ => false,
-        }
+        self.value(literal) == Value::True
+            && self.is_marked_as(index_of(literal), Standing::Assumed)
     }
 
     /// Whether a variable is marked and its literal stands so.

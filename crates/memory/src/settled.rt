@@ -75,9 +75,7 @@ impl<'a> Settled<'a> {
     fn is_failed(&self, literal: i32) -> bool
         ensures { result ≡ failed_is self.now.memory.words.now self.now.failed literal }
     {
-        match self.failed {
-            Some(number) => literal == self.memory.words[number],
-            None => false,
-        }
+        self.failed
+            .is_some_and(|number| literal == self.memory.words[number])
     }
 }
