@@ -65,45 +65,45 @@ fn read_group(
         .map_err(|refusal| BookFault::Book(refusal, at))
 }
 
-/// The two books that a file fills.
-#[derive(Drop)]
-struct Books<'a, 'c, 'g> {
-    clauses: &'a mut ClauseBook<'c>,
-    groups: &'a mut GroupBook<'g>,
+/// The rules of a file that has `count` clauses.
+// The two books are parameters of their own: of a struct that lends both, a contract can say only by place what is left in each.
+fn read_rules(
+    reader: &mut Reader<'_>,
+    clauses: &mut ClauseBook<'_>,
+    groups: &mut GroupBook<'_>,
+    count: u32,
+) -> Result<(), BookFault>
+    requires clauses { clausebook.clean (clausebook.filling clauses.old) ≡ clausebook.filling clauses.old }
+    requires groups { groupbook.clean (groupbook.filling groups.old) ≡ groupbook.filling groups.old }
+    ensures read { filled (books clauses.old groups.old) (rules_in count between (ahead reader.old)) ≡ told result (books clauses.new groups.new) }
+    ensures sized { SameSizes clauses.old clauses.new groups.old groups.new }
+{
+    let mut left = count;
+    while let Some(start) = next_start(reader, left)? {
+        match start {
+            Start::Clause(first) => {
+                left -= 1;
+                read_clause(reader, clauses, first)?;
+            }
+            Start::Group(at) => read_group(reader, groups, at)?,
+        }
+    }
+    Ok(())
 }
 
-impl Books<'_, '_, '_> {
-    /// The rules of a file that has `count` clauses.
-    fn read_rules(self, reader: &mut Reader<'_>, count: u32) -> Result<(), BookFault>
-        requires clauses { clausebook.clean (clausebook.filling self.clauses.now) ≡ clausebook.filling self.clauses.now }
-        requires groups { groupbook.clean (groupbook.filling self.groups.now) ≡ groupbook.filling self.groups.now }
-        ensures read { filled (books self.entry.clauses.now self.entry.groups.now) (rules_in count between (ahead reader.old)) ≡ told result (books self.exit.0.now self.exit.1.0.now) }
-        ensures sized { SameSizes self.entry.clauses.now self.exit.0.now self.entry.groups.now self.exit.1.0.now }
-    {
-        let Books { clauses, groups } = self;
-        let mut left = count;
-        while let Some(start) = next_start(reader, left)? {
-            match start {
-                Start::Clause(first) => {
-                    left -= 1;
-                    read_clause(reader, clauses, first)?;
-                }
-                Start::Group(at) => read_group(reader, groups, at)?,
-            }
-        }
-        Ok(())
-    }
-
-    /// The number of clauses, and the rules.
-    fn read_body(self, reader: &mut Reader<'_>) -> Result<(), BookFault>
-        requires clauses { clausebook.clean (clausebook.filling self.clauses.now) ≡ clausebook.filling self.clauses.now }
-        requires groups { groupbook.clean (groupbook.filling self.groups.now) ≡ groupbook.filling self.groups.now }
-        ensures read { body (books self.entry.clauses.now self.entry.groups.now) (ahead reader.old) ≡ told result (books self.exit.0.now self.exit.1.0.now) }
-        ensures sized { SameSizes self.entry.clauses.now self.exit.0.now self.entry.groups.now self.exit.1.0.now }
-    {
-        let count = read_count(reader)?;
-        self.read_rules(reader, count.value)
-    }
+/// The number of clauses, and the rules.
+fn read_body(
+    reader: &mut Reader<'_>,
+    clauses: &mut ClauseBook<'_>,
+    groups: &mut GroupBook<'_>,
+) -> Result<(), BookFault>
+    requires clauses { clausebook.clean (clausebook.filling clauses.old) ≡ clausebook.filling clauses.old }
+    requires groups { groupbook.clean (groupbook.filling groups.old) ≡ groupbook.filling groups.old }
+    ensures read { body (books clauses.old groups.old) (ahead reader.old) ≡ told result (books clauses.new groups.new) }
+    ensures sized { SameSizes clauses.old clauses.new groups.old groups.new }
+{
+    let count = read_count(reader)?;
+    read_rules(reader, clauses, groups, count.value)
 }
 
 /// Reads a file from its number of clauses on into the books, which it empties first; the file has so many variables.
@@ -119,7 +119,7 @@ pub fn read_rest(
 {
     clauses.reset(variables);
     groups.reset(variables);
-    let read = Books { clauses, groups }.read_body(&mut reader);
+    let read = read_body(&mut reader, clauses, groups);
     if read.is_err() {
         clauses.reset(0);
         groups.reset(0);

@@ -59,7 +59,7 @@ noted b l (Some r) = b
 abbrev pub pushed : Filling → ℤ → Filling
 pushed b l = cond (in_range b.variables l) (noted b l b.fault) (faulted b NoVariable)
 
--- a literal takes no word from the book
+-- the number of words stays as literals are added
 pub pushed_size : (b : Filling) (l : ℤ) → (pushed b l).size ≡ b.size
 pushed_size b l = cond_both (in_range b.variables l) (noted b l b.fault) (faulted b NoVariable) (λ k. k.size ≡ b.size) (λ _. by b.fault) (λ _. refl)
   where

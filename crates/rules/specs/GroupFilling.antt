@@ -72,7 +72,7 @@ fallen b (Some NotRising) = b
 abbrev pub pushed : Filling → ℤ → Filling
 pushed b l = cond (in_range b.variables l) (cond (nat_lt b.last (var l)) (risen b l b.fault) (fallen b b.fault)) (faulted b NoVariable)
 
--- a literal takes no word from the book
+-- the number of words stays as literals are added
 pub pushed_size : (b : Filling) (l : ℤ) → (pushed b l).size ≡ b.size
 pushed_size b l = cond_both (in_range b.variables l) (cond (nat_lt b.last (var l)) (risen b l b.fault) (fallen b b.fault)) (faulted b NoVariable) (λ k. k.size ≡ b.size)
     (λ _. cond_both (nat_lt b.last (var l)) (risen b l b.fault) (fallen b b.fault) (λ k. k.size ≡ b.size) (λ _. up b.fault) (λ _. down b.fault)) (λ _. refl)

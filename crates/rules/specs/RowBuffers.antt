@@ -24,13 +24,13 @@ content b = record {
   fault = b.fault;
 }
 
--- the words: the rows that stand, each with a 0 behind it, the row that is being written, and zeros
-abbrev pub all_words : Content → List ℤ
-all_words b = spelled b.standing ++ (b.draft ++ replicate (b.size - (words_of b.standing + length b.draft)) (pos 0))
-
--- the words behind the row that is being written
+-- how many words are behind the row that is being written
 abbrev pub free : Content → ℕ
 free b = b.size - (words_of b.standing + length b.draft)
+
+-- the words: the rows that stand, each with a 0 behind it, the row that is being written, and zeros
+abbrev pub all_words : Content → List ℤ
+all_words b = spelled b.standing ++ (b.draft ++ replicate (free b) (pos 0))
 
 -- no row
 abbrev pub blank : ℕ → ℕ → Content

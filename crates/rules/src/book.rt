@@ -18,7 +18,7 @@ pub trait Book {
     fn push(&mut self, literal: i32)
         ensures { filling self.new ≡ pushed (filling self.old) literal };
 
-    /// A literal takes no word from the book.
+    /// The number of words stays as literals are added.
     ghost keeps_size: { (b : Filling) (l : ℤ) → size (pushed b l) ≡ size b };
 }
 

@@ -1,4 +1,4 @@
-use Rattle.std.proofs.Common.{refl, ap, ◌∙◌, w32, to_z, of_z, rules}
+use Rattle.std.proofs.Common.{refl, ap, ◌∙◌, rules}
 use Rattle.std.proofs.lemmas.Result.{err_from_is_err_and}
 use Rattle.rulefile.proofs.FormLaws.{number_shorter, pushes_more, pushes_end}
 use Rattle.rulefile.proofs.books.push_literals.Goals as goal

@@ -3,7 +3,7 @@ use Rattle.rules.specs.ClauseFilling as C
 use Rattle.rules.specs.GroupFilling as G
 use Rattle.rulefile.specs.Ahead.{ahead}
 use Rattle.rulefile.specs.Outcomes.{rules_in, between, books, filled, SameSizes}
-use Rattle.rulefile.proofs.books.Books.read_rules.Given as goal
+use Rattle.rulefile.proofs.books.read_rules.Given as goal
 
 abbrev pub invariant-loop-start : goal.invariant-loop-start
 invariant-loop-start l = record {

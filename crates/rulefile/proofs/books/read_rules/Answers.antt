@@ -7,7 +7,7 @@ use Rattle.rulefile.specs.Ahead.{ahead}
 use Rattle.rulefile.specs.Form.{start_next}
 use Rattle.rulefile.specs.Outcomes.{books, filled}
 use Rattle.rulefile.proofs.FillingLaws.{started, rules_started, clause_left, clause_step, clause_on, group_step, group_on}
-use Rattle.rulefile.proofs.books.Books.read_rules.Goals as goal
+use Rattle.rulefile.proofs.books.read_rules.Goals as goal
 
 pub returns-in_err-start-clause-read : goal.returns-in_err-start-clause-read
 returns-in_err-start-clause-read c =
