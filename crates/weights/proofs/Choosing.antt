@@ -1,5 +1,5 @@
 use Rattle.std.proofs.Common.{◌≡◌, Bool, true, false, List, [], ◌∷◌, ◌++◌, length, Some, None, All, Contains, Option, sym, refl, ap, ◌∙◌, subst, ⊎_elim, append_assoc, arith, length-append}
-use Rattle.std.proofs.lemmas.List.Elements.{All-nil, All-cons, All-head, All-tail, All-contains, All-push, All-weaker, Contains-append_right, Contains-get_or}
+use Rattle.std.proofs.lemmas.List.Elements.{All-nil, All-head, All-tail, All-contains, All-push, All-weaker, Contains-append_right, Contains-get_or}
 use Rattle.std.proofs.lemmas.Bool.{both_ways, cases_Bool, cond_both}
 use Rattle.weights.specs.Choosing.{FirstLeast, Choice, offered}
 use Rattle.weights.specs.Orders.{Total, Chain}
@@ -34,9 +34,9 @@ module _ {X : Type 0} (at_most : X → X → Bool) where
     at_most_itself : (x : X) → at_most x x ≡ true
     at_most_itself x = ⊎_elim (λ e. e) (total x x) (cases_Bool (at_most x x))
 
-    -- the first that is offered is taken
-    alone : (x : X) → FirstLeast at_most (x ∷ []) x
-    alone x = record { before = []; after = []; stands = refl; least = All-cons (λ y. at_most x y ≡ true) x [] (at_most_itself x) (All-nil (λ y. at_most x y ≡ true)); first = All-nil (λ y. at_most y x ≡ false) }
+    -- a new one is the first least where it is at most each before it and none of these is at most it
+    last : (row : List X) (x : X) → All (λ y. at_most x y ≡ true) row → All (λ y. at_most y x ≡ false) row → FirstLeast at_most (row ++ (x ∷ [])) x
+    last row x least first = record { before = row; after = []; stands = refl; least = All-push (λ y. at_most x y ≡ true) row x least (at_most_itself x); first = first }
 
     -- the one kept stays where it is at most the new one
     stays : (row : List X) (kept x : X) → FirstLeast at_most row kept → at_most kept x ≡ true → FirstLeast at_most (row ++ (x ∷ [])) kept
@@ -51,17 +51,11 @@ module _ {X : Type 0} (at_most : X → X → Bool) where
     -- otherwise it yields to the new one
     yields : (row : List X) (kept x : X) → FirstLeast at_most row kept → at_most kept x ≡ false → FirstLeast at_most (row ++ (x ∷ [])) x
     yields row kept x f h =
-        let above = All-weaker (λ y. at_most kept y ≡ true) (λ y. at_most x y ≡ true) (λ y. chain x kept y (total kept x h)) row f.least in
         let below : (y : X) → at_most kept y ≡ true → at_most y x ≡ false = λ y k. ⊎_elim (λ e. absurd (both_ways (at_most kept x) h (chain kept y x k e))) (λ e. e) (cases_Bool (at_most y x)) in
-        record {
-          before = row;
-          after = [];
-          stands = refl;
-          least = All-push (λ y. at_most x y ≡ true) row x above (at_most_itself x);
-          first = All-weaker (λ y. at_most kept y ≡ true) (λ y. at_most y x ≡ false) below row f.least;
-        }
+        last row x (All-weaker (λ y. at_most kept y ≡ true) (λ y. at_most x y ≡ true) (λ y. chain x kept y (total kept x h)) row f.least)
+        (All-weaker (λ y. at_most kept y ≡ true) (λ y. at_most y x ≡ false) below row f.least)
 
     -- what is kept after an offer is the choice from the row with the new one at its end
     pub choice_offered : (row : List X) (kept : Option X) (x : X) → Choice at_most row kept → Choice at_most (row ++ (x ∷ [])) (offered at_most kept x)
-    choice_offered row None x e = subst (λ r. FirstLeast at_most (r ++ (x ∷ [])) x) (sym e) (alone x)
+    choice_offered row None x e = subst (λ r. FirstLeast at_most (r ++ (x ∷ [])) x) (sym e) (last [] x (All-nil (λ y. at_most x y ≡ true)) (All-nil (λ y. at_most y x ≡ false)))
     choice_offered row (Some kept) x f = cond_both (at_most kept x) (Some kept) (Some x) (Choice at_most (row ++ (x ∷ []))) (stays row kept x f) (yields row kept x f)
