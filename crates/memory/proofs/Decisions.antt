@@ -1,8 +1,9 @@
 -- The first assumption that is not true, and which literal is decided next.
-use Rattle.std.proofs.Common.{◌≡◌, ℕ, zero, suc, ◌+◌, ◌<◌, ◌≤◌, Bool, true, false, cond, not, eqb, List, [], ◌∷◌, ℤ, pos, negsuc, neg_ℤ, nat_abs, Some, None, Option, sym, refl, ap, ◌∙◌, subst, inl, inr, add-one, arith}
+use Rattle.std.proofs.Common.{◌≡◌, ℕ, zero, suc, ◌+◌, ◌<◌, ◌≤◌, Bool, true, false, cond, not, eqb, List, [], ℤ, pos, negsuc, neg_ℤ, nat_abs, Some, None, Option, sym, refl, ap, ◌∙◌, subst, inl, inr, add-one, arith}
 use Rattle.std.proofs.lemmas.List.Elements.{All-nil, All-cons}
 use Rattle.std.specs.List.{find}
 use Rattle.std.specs.Option.{MatchOption, option_map}
+use Rattle.std.proofs.lemmas.Option.{none-some}
 use mathlib.Core.Bool.{and_comm}
 use Rattle.std.proofs.lemmas.Bool.{cases_Bool, cases_lt, cond-true, not_from_false}
 use Rattle.rules.specs.Literals.{var, in_range}
@@ -14,7 +15,7 @@ use Rattle.theory.specs.Look.{First, First.here, First.later, NonePass}
 use Rattle.theory.specs.Search.{missing}
 use Rattle.theory.proofs.Compute.{free_outside}
 use Rattle.theory.proofs.Invariant.{first_passes}
-use Rattle.theory.proofs.Looking.{first_of, first_finds, Finds, first_none, some_none}
+use Rattle.theory.proofs.Looking.{first_finds, Finds, first_none}
 use Rattle.memory.specs.Words.{word_at, words_from, index_of}
 use Rattle.memory.specs.Decode.{trail_of, open_index, unvalued, Coherent}
 use Rattle.memory.specs.Deciding.{assumption_at, Decides, Decides.preferred, Decides.lowest, Decides.complete}
@@ -23,12 +24,8 @@ use Rattle.memory.proofs.Valuing.{open_is}
 
 -- what the library finds is first
 pub find_first : {A : Type 0} (test : A → Bool) (xs : List A) (o : Option A) → option_map (λ x. x) o ≡ find test xs → Finds test xs o
-find_first {A} test xs o e = subst (Finds test xs) (found xs ∙ sym e ∙ itself o) (first_finds test xs)
+find_first {A} test xs o e = subst (Finds test xs) (sym e ∙ itself o) (first_finds test xs)
   where
-    found : (ys : List A) → first_of test ys ≡ find test ys
-    found [] = refl
-    found (y ∷ ys) = ap (cond (test y) (Some y)) (found ys)
-
     itself : (p : Option A) → option_map (λ x. x) p ≡ p
     itself None = refl
     itself (Some y) = refl
@@ -108,4 +105,4 @@ first_preferred n t preferences (Some l) f h = preferred l f
 pub decides_free : (n : ℕ) (t : Trail) (preferences : List ℤ) (o : Option ℤ) → Decides n t preferences o → (l : ℤ) → o ≡ Some l → free n t l ≡ true
 decides_free n t preferences o (preferred k f) l e = let q : k ≡ l = cc in subst (λ x. free n t x ≡ true) q (first_passes (free n t) f)
 decides_free n t preferences o (lowest v _ f _) l e = let q : pos v ≡ l = cc in subst (λ x. free n t x ≡ true) q f
-decides_free n t preferences o (complete _ _) l e = absurd (some_none l (sym e))
+decides_free n t preferences o (complete _ _) l e = absurd (none-some l e)

@@ -1,6 +1,6 @@
 -- The learned clauses one by one, and how a clause stands by the values.
 use Rattle.std.proofs.Common.{◌≡◌, ℕ, suc, ◌+◌, ◌-◌, ◌*◌, ◌<◌, ◌≤◌, Bool, true, false, cond, ◌||◌, List, [], ◌∷◌, map, length, get_or, take, drop, ℤ, pos, neg_ℤ, Some, None, All, Option, sym, refl, ap, ◌∙◌, subst, inl, inr, arith}
-use Rattle.std.specs.List.{range_with_len}
+use Rattle.std.specs.List.{find, range_with_len}
 use Rattle.std.specs.Option.{option_or}
 use Rattle.std.proofs.lemmas.Bool.{cases_Bool, both_ways}
 use Rattle.rules.specs.Literals.{same, in_range}
@@ -14,7 +14,7 @@ use Rattle.rules.proofs.Statuses.{status_cong, falsified_all, unit_at, asserting
 use Rattle.theory.specs.Trail.{Trail, on, WellFormed, valuation}
 use Rattle.theory.specs.Look.{Position, falsified_on, unit_on, Look}
 use Rattle.theory.proofs.Invariant.{look_asserts}
-use Rattle.theory.proofs.Looking.{first_of, either_slot, look_after, look_looks}
+use Rattle.theory.proofs.Looking.{look_after, look_looks}
 use Rattle.theory.proofs.Valuations.{valuation_true}
 use Rattle.memory.specs.Words.{word_at, words_from, clause_at}
 use Rattle.memory.specs.Decode.{trail_of, clause_of, slot_of, Coherent}
@@ -25,14 +25,14 @@ use Rattle.memory.proofs.Reading.{part_word, part_is, values_are}
 
 -- what the clauses still to come give, where `so_far` is the first unit one so far and none was falsified
 abbrev pub recalled : Trail → Option (List ℤ) → List (List ℤ) → Option (List ℤ)
-recalled t so_far rest = either_slot (first_of (falsified_on t) rest) (either_slot so_far (first_of (unit_on t) rest))
+recalled t so_far rest = option_or (find (falsified_on t) rest) (option_or so_far (find (unit_on t) rest))
 
 -- those from a slot on
 pub rest_next : {A : Type 0} (f : ℕ → A) (s filled : ℕ) → s < filled → map f (range_with_len s (filled - s)) ≡ f s ∷ map f (range_with_len (s + 1) (filled - (s + 1)))
 rest_next f s filled h = let e : filled - s ≡ suc (filled - (s + 1)) = omega arith in ap (λ k. map f (range_with_len s k)) e
 
 -- the first of two slots
-pub or_learned : (n : ℕ) (ws : List ℤ) (o : Option ℕ) (s : ℕ) → learned_at n ws (option_or o (Some s)) ≡ either_slot (learned_at n ws o) (Some (slot_of n ws s))
+pub or_learned : (n : ℕ) (ws : List ℤ) (o : Option ℕ) (s : ℕ) → learned_at n ws (option_or o (Some s)) ≡ option_or (learned_at n ws o) (Some (slot_of n ws s))
 or_learned n ws None s = refl
 or_learned n ws (Some r) s = refl
 
@@ -44,10 +44,10 @@ module _ (t : Trail) (so_far : Option (List ℤ)) (C : List ℤ) (rest : List (L
   pub recall_falsified : falsified_on t C ≡ true → recalled t so_far (C ∷ rest) ≡ Some C
   recall_falsified h = rw h
 
-  pub recall_unit : falsified_on t C ≡ false → unit_on t C ≡ true → recalled t so_far (C ∷ rest) ≡ recalled t (either_slot so_far (Some C)) rest
-  recall_unit h k = rw (h, k) (ap (either_slot (first_of (falsified_on t) rest)) (by so_far))
+  pub recall_unit : falsified_on t C ≡ false → unit_on t C ≡ true → recalled t so_far (C ∷ rest) ≡ recalled t (option_or so_far (Some C)) rest
+  recall_unit h k = rw (h, k) (ap (option_or (find (falsified_on t) rest)) (by so_far))
     where
-      by : (o : Option (List ℤ)) → either_slot o (Some C) ≡ either_slot (either_slot o (Some C)) (first_of (unit_on t) rest)
+      by : (o : Option (List ℤ)) → option_or o (Some C) ≡ option_or (option_or o (Some C)) (find (unit_on t) rest)
       by None = refl
       by (Some D) = refl
 

@@ -1,10 +1,10 @@
 -- The choice of a chunk as a function: the first least of the allowed decisions, the latest first.
-use Rattle.std.proofs.Common.{◌≡◌, ℕ, ◌≤◌, Bool, true, false, cond, ◌⊎◌, List, [], ◌∷◌, ◌++◌, take, ℤ, Some, None, fold, filter, Option, sym, refl, ap, ◌∙◌, subst, inl, inr, append_assoc, arith}
-use mathlib.Core.Bool.{false≢true}
+use Rattle.std.proofs.Common.{◌≡◌, ℕ, ◌≤◌, Bool, true, false, cond, ◌||◌, List, [], ◌∷◌, ◌++◌, take, ℤ, Some, None, fold, filter, Option, sym, refl, ap, ◌∙◌, subst, inl, inr, append_assoc, arith}
+use mathlib.Core.Bool.{false≢true, or_assoc}
 use Rattle.std.proofs.lemmas.List.{append-nil}
-use Rattle.std.proofs.lemmas.Bool.{cond_both, or_cases, or_left, both_ways}
+use Rattle.std.proofs.lemmas.Bool.{cond_both, or_cases, or_left, or_right, both_ways}
 use Rattle.rules.specs.Literals.{same, has}
-use Rattle.rules.proofs.Literals.{same_true, same_refl, has_first, has_later, all_has}
+use Rattle.rules.proofs.Literals.{same_true, same_refl, has_first, all_has}
 use Rattle.rules.proofs.Statuses.{kept_in, in_kept}
 use Rattle.weights.specs.Choosing.{FirstLeast, Choice, offered}
 use Rattle.weights.proofs.Choosing.{choice_offered}
@@ -70,16 +70,9 @@ decided_falling n T w (decided l ∷ t) h = (
 )
 decided_falling n T w (implied l others ∷ t) h = decided_falling n T w t (next h)
 
-append_cases : (xs ys : List ℤ) (x : ℤ) → has (xs ++ ys) x ≡ true → (has xs x ≡ true) ⊎ (has ys x ≡ true)
-append_cases [] ys x h = inr h
-append_cases (l ∷ xs) ys x h = elim (or_cases (same x l) (has (xs ++ ys) x) h) [
-  | inl e ↦ inl (or_left (same x l) (has xs x) e)
-  | inr e ↦ elim (append_cases xs ys x e) [ inl k ↦ inl (has_later l xs x k) | inr k ↦ inr k ]
-]
-
-append_later : (xs ys : List ℤ) (x : ℤ) → has ys x ≡ true → has (xs ++ ys) x ≡ true
-append_later [] ys x h = h
-append_later (l ∷ xs) ys x h = has_later l (xs ++ ys) x (append_later xs ys x h)
+has_append : (xs ys : List ℤ) (x : ℤ) → has (xs ++ ys) x ≡ (has xs x || has ys x)
+has_append [] ys x = refl
+has_append (l ∷ xs) ys x = ap (λ b. same x l || b) (has_append xs ys x) ∙ sym (or_assoc (same x l) (has xs x) (has ys x))
 
 falling_after : (f : ℤ → ℕ) (before : List ℤ) (x : ℤ) (after : List ℤ) → Falling f (before ++ (x ∷ after)) → (c : ℤ) → has (x ∷ after) c ≡ true → f c ≤ f x
 falling_after f [] x after w c h = elim (or_cases (same c x) (has after c) h) [ inl e ↦ let s = ap f (same_true c x e) in omega arith | inr e ↦ w.0 c e ]
@@ -152,9 +145,9 @@ module _ (n L : ℕ) (p : Position) (w : WellFormed n p.trail) (C : List ℤ) wh
   -- the first least of them is the chosen one
   first_least_chosen : (at_most : Weighing) (d : ℤ) → FirstLeast (lighter at_most p.trail) (allowed_decisions L p C) d → Chosen L at_most p C d
   first_least_chosen at_most d f = record {
-    allowed = allowed_in d (subst (λ row. has row d ≡ true) (sym f.stands) (append_later f.before (d ∷ f.after) d (has_first d f.after)));
+    allowed = allowed_in d (subst (λ row. has row d ≡ true) (sym f.stands) (has_append f.before (d ∷ f.after) d ∙ or_right (has f.before d) (has (d ∷ f.after) d) (has_first d f.after)));
     least = λ c a. all_has (λ y. lighter at_most p.trail d y ≡ true) (allowed_decisions L p C) f.least c (allowed_all c a);
-    ties = λ c a e. elim (append_cases f.before (d ∷ f.after) c (subst (λ row. has row c ≡ true) f.stands (allowed_all c a))) [
+    ties = λ c a e. elim (or_cases (has f.before c) (has (d ∷ f.after) c) (sym (has_append f.before (d ∷ f.after) c) ∙ subst (λ row. has row c ≡ true) f.stands (allowed_all c a))) [
       | inl k ↦ absurd (both_ways (lighter at_most p.trail c d) (all_has (λ y. lighter at_most p.trail y d ≡ false) f.before f.first c k) e)
       | inr k ↦ falling_after (place_of p.trail) f.before d f.after (subst (Falling (place_of p.trail)) f.stands allowed_falling) c k
     ];

@@ -1,11 +1,13 @@
 -- A step and a run as functions, and that they go as the rules say.
 use Rattle.std.proofs.Common.{◌≡◌, ℕ, zero, suc, ◌+◌, ◌<◌, ◌≤◌, Bool, true, false, cond, List, [], ◌∷◌, length, ℤ, pos, neg_ℤ, Some, None, filter, Option, sym, refl, ap, ◌∙◌, subst, inl, inr, arith}
+use Rattle.std.specs.List.{find}
+use Rattle.std.specs.Option.{unwrap_or}
 use mathlib.Core.Bool.{false≢true}
-use Rattle.std.proofs.lemmas.Bool.{or_cases, cond_both, both_ways, cases_Bool, cases_eq, cases_lt}
-use Rattle.rules.specs.Literals.{same, has}
+use Rattle.std.proofs.lemmas.Bool.{cond_both, both_ways, cases_Bool, cases_eq, cases_lt}
+use Rattle.rules.specs.Literals.{has}
 use Rattle.rules.specs.Clauses.{Status, Status.falsified, Status.unit, Status.other, status, is_falsified, is_unit}
 use Rattle.rules.specs.Sources.{LawfulAt}
-use Rattle.rules.proofs.Literals.{range_bounds, has_first, has_later, same_true}
+use Rattle.rules.proofs.Literals.{range_bounds, all_has}
 use Rattle.rules.proofs.Statuses.{falsified_all}
 use Rattle.theory.specs.Weighing.{Fair}
 use Rattle.theory.specs.Trail.{Entry.assumed, Entry.decided, Entry.implied, Trail, on, free, assumed_literals, WellFormed}
@@ -16,10 +18,10 @@ use Rattle.theory.specs.Search.{Guide, Verdict, Verdict.still_open, Verdict.paus
 use Rattle.theory.specs.Run.{Search, Report, no_steps, one_step, added, Goes, Goes.ends, Goes.pauses, Goes.steps, Run, Run.again, Run.goes}
 use Rattle.theory.proofs.Trails.{free_parts}
 use Rattle.theory.proofs.Analysis.{analyse, analyse_analysed, one_touching}
-use Rattle.theory.proofs.Invariant.{Orderly, look_asserts}
+use Rattle.theory.proofs.Invariant.{Orderly, first_passes, first_has, look_asserts}
 use Rattle.theory.proofs.Repairing.{learned_all, learned_in}
 use Rattle.theory.proofs.Steps.{step_advances}
-use Rattle.theory.proofs.Looking.{first_of, first_finds, Finds, look, look_looks}
+use Rattle.theory.proofs.Looking.{first_finds, Finds, look, look_looks}
 use Rattle.theory.proofs.Uniqueness.{end_or_step}
 use Rattle.theory.proofs.Choice.{choice, Chooses, choice_chooses}
 
@@ -30,8 +32,7 @@ pub data Turn : Type 0 where
 
 -- the first of a list that passes a test, of a list where one does
 abbrev pub picked : (ℤ → Bool) → List ℤ → ℤ
-picked test [] = pos 0
-picked test (x ∷ xs) = cond (test x) x (picked test xs)
+picked test xs = unwrap_or (find test xs) (pos 0)
 
 -- what the analysis of C leaves for the chunk of d, and its literal that touches the chunk
 abbrev pub left_over : Trail → ℤ → List ℤ → ℤ → Bool
@@ -64,13 +65,13 @@ by_preference n p None = by_lowest p (lowest_of (λ v. free n p.trail (pos v)) 0
 by_preference n p (Some l) = goes_on deciding 0 (placed p (decided l))
 
 abbrev pub by_assumption : ℕ → Guide → Position → Option ℤ → Turn
-by_assumption n g p None = by_preference n p (first_of (free n p.trail) g.preferences)
+by_assumption n g p None = by_preference n p (find (free n p.trail) g.preferences)
 by_assumption n g p (Some a) = cond (on p.trail (neg_ℤ a))
     (stops refuted (a ∷ filter (λ r. in_chunk r p.trail (neg_ℤ a)) (assumed_literals p.trail)))
     (goes_on assuming 0 (placed p (assumed a)))
 
 abbrev pub by_look : ℕ → ℕ → Guide → Position → Option (List ℤ) → Turn
-by_look n L g p None = by_assumption n g p (first_of (missing p.trail) p.assumptions)
+by_look n L g p None = by_assumption n g p (find (missing p.trail) p.assumptions)
 by_look n L g p (Some C) = by_status n L g p C (status (on p.trail) C)
 
 abbrev pub turn : ℕ → ℕ → Guide → Position → Turn
@@ -105,14 +106,11 @@ running n L g limit q = cond (ended q.verdict) (record { report = no_steps q.ver
 -- THE FUNCTIONS GO AS THE RULES SAY
 
 picked_passes : (test : ℤ → Bool) (xs : List ℤ) (x : ℤ) → has xs x ≡ true → test x ≡ true → (has xs (picked test xs) ≡ true) × (test (picked test xs) ≡ true)
-picked_passes test [] x h e = absurd (false≢true h)
-picked_passes test (y ∷ xs) x h e = elim (cases_Bool (test y)) [
-  | inl p ↦ rw p (has_first y xs, p)
-  | inr p ↦ elim (or_cases (same x y) (has xs x) h) [
-    | inl z ↦ absurd (both_ways (test y) p (subst (λ v. test v ≡ true) (same_true x y z) e))
-    | inr z ↦ let r = picked_passes test xs x z e in rw p (has_later y xs (picked test xs) r.0, r.1)
-  ]
-]
+picked_passes test xs x h e = by (find test xs) (first_finds test xs)
+  where
+    by : (o : Option ℤ) → Finds test xs o → (has xs (unwrap_or o (pos 0)) ≡ true) × (test (unwrap_or o (pos 0)) ≡ true)
+    by None f = absurd (both_ways (test x) (all_has (λ y. test y ≡ false) xs f x h) e)
+    by (Some y) f = (first_has test f, first_passes test f)
 
 -- the lowest of the numbers up to n, or none
 abbrev Lowest : (ℕ → Bool) → ℕ → Option ℕ → Type 0
@@ -172,11 +170,11 @@ module _ (n L : ℕ) (g : Guide) (p : Position) (law : LawfulAt n g.source) (fai
   assumption_meets lk (Some a) f = cond_both (on p.trail (neg_ℤ a))
       (stops refuted (a ∷ filter (λ r. in_chunk r p.trail (neg_ℤ a)) (assumed_literals p.trail))) (goes_on assuming 0 (placed p (assumed a))) (Meets n L g p)
       (λ h. denies a lk f h) (λ h. assume a lk f h)
-  assumption_meets lk None f = preference_meets lk f (first_of (free n p.trail) g.preferences) (first_finds (free n p.trail) g.preferences)
+  assumption_meets lk None f = preference_meets lk f (find (free n p.trail) g.preferences) (first_finds (free n p.trail) g.preferences)
 
   look_meets : (o : Option (List ℤ)) → Look n g.source p o → Meets n L g p (by_look n L g p o)
   look_meets (Some C) lk = status_meets C lk (status (on p.trail) C) refl
-  look_meets None lk = assumption_meets lk (first_of (missing p.trail) p.assumptions) (first_finds (missing p.trail) p.assumptions)
+  look_meets None lk = assumption_meets lk (find (missing p.trail) p.assumptions) (first_finds (missing p.trail) p.assumptions)
 
   pub turn_meets : Meets n L g p (turn n L g p)
   turn_meets = look_meets (look n g.source p) (look_looks n g.source p)

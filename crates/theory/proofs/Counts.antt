@@ -1,20 +1,11 @@
 -- What a run's report counts, and what a run leaves as it was.
 use Rattle.std.proofs.Common.{◌≡◌, ℕ, ◌+◌, ◌≤◌, length, refl, ◌∙◌, arith}
 use Rattle.theory.specs.Look.{Position}
-use Rattle.theory.specs.Search.{Guide, Kind, Kind.assuming, Kind.deciding, Kind.implying, Kind.conflicting, Step, Step.conflict, Step.imply, Step.assume, Step.prefer, Step.lowest}
-use Rattle.theory.specs.Run.{Search, Report, one_step, Goes, Goes.ends, Goes.pauses, Goes.steps, Run, Run.again, Run.goes}
+use Rattle.theory.specs.Search.{Guide, Kind, Step, Step.conflict, Step.imply, Step.assume, Step.prefer, Step.lowest}
+use Rattle.theory.specs.Run.{Search, Report, Goes, Goes.ends, Goes.pauses, Goes.steps, Run, Run.again, Run.goes}
 use Rattle.theory.specs.Laws.{Counted}
 use Rattle.theory.proofs.Repairing.{chunk_kept}
-use Rattle.theory.proofs.Ends.{one_step_counts}
-
-abbrev Sums : Report → Type 0
-Sums r = r.steps ≡ r.assumed + r.decided + r.implied + r.conflicts
-
-one_step_sums : (k : Kind) (u : ℕ) → Sums (one_step k u)
-one_step_sums assuming u = refl
-one_step_sums deciding u = refl
-one_step_sums implying u = refl
-one_step_sums conflicting u = refl
+use Rattle.theory.proofs.Ends.{Sums, one_step_counts}
 
 module _ (n L : ℕ) (g : Guide) where
   -- a step places one literal more than it undoes
@@ -36,7 +27,7 @@ module _ (n L : ℕ) (g : Guide) where
   goes_counted (ends v ns e) = (refl, omega arith)
   goes_counted (pauses h) = (refl, omega arith)
   goes_counted (steps {r = r} k u p' st go) =
-      let a = goes_counted go in let b = one_step_sums k u in let c = (one_step_counts k u).0 in let d = a.0 in let e = a.1 in
+      let a = goes_counted go in let s = one_step_counts k u in let b = s.2 in let c = s.0 in let d = a.0 in let e = a.1 in
       (omega arith, omega arith)
 
   pub run_counted : {limit : ℕ} {q : Search} {r : Report} {q' : Search} → Run n L g limit q r q' → Counted (record { limit = limit; guide = g; report = r })

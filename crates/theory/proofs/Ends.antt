@@ -18,7 +18,7 @@ use Rattle.theory.proofs.Soundness.{makes_one, level_0_true, no_assignment}
 use Rattle.theory.proofs.Valuations.{valuation_valid, valuation_full, valuation_assignment, assignment_length, assignment_makes}
 use Rattle.theory.proofs.Invariant.{Orderly, Admitted, Sound, potential, first_has, look_entailed}
 use Rattle.theory.proofs.Steps.{step_advances, step_sound}
-use Rattle.theory.proofs.Placing.{no_decision, none_passes}
+use Rattle.theory.proofs.Placing.{no_decision}
 
 pub model_refuted : model ≡ refuted → ⊥
 model_refuted e = let z : ◌≡◌ {A = ℕ} 0 1 = cc in omega arith
@@ -95,17 +95,21 @@ module _ (n L : ℕ) (m : Meaning) (p : Position) (law : LawfulAt n m) (o : Orde
         ∙ law.quiet (valuation n p.trail) (valuation_valid n p.trail) (valuation_full n p.trail o.formed c) (silence lk),
     has_all (λ l. makes (assignment n (on p.trail)) l ≡ true) p.assumptions (λ x h.
         assignment_makes n p.trail o.formed x (all_has (λ y. in_range n y ≡ true) p.assumptions o.ranged x h)
-        (not-false (on p.trail x) (none_passes (missing p.trail) p.assumptions al x h))),
+        (not-false (on p.trail x) (all_has (λ y. missing p.trail y ≡ false) p.assumptions al x h))),
   )
     where
       silence : Look n m p None → m.answer (valuation n p.trail) ≡ silent
       silence (no_clause e f u) = e
 
-pub one_step_counts : (k : Kind) (u : ℕ) → ((one_step k u).steps ≡ 1) × ((one_step k u).undone ≡ u)
-one_step_counts assuming u = (refl, refl)
-one_step_counts deciding u = (refl, refl)
-one_step_counts implying u = (refl, refl)
-one_step_counts conflicting u = (refl, refl)
+-- the steps are those of each kind
+abbrev pub Sums : Report → Type 0
+Sums r = r.steps ≡ r.assumed + r.decided + r.implied + r.conflicts
+
+pub one_step_counts : (k : Kind) (u : ℕ) → ((one_step k u).steps ≡ 1) × ((one_step k u).undone ≡ u) × Sums (one_step k u)
+one_step_counts assuming u = (refl, refl, refl)
+one_step_counts deciding u = (refl, refl, refl)
+one_step_counts implying u = (refl, refl, refl)
+one_step_counts conflicting u = (refl, refl, refl)
 
 -- from lawful sources alone: the position stays orderly, and each reported step raised the potential
 pub goes_orderly : (n L : ℕ) (g : Guide) → LawfulAt n g.source → {limit : ℕ} {p : Position} {r : Report} {q : Search} → Goes n L g limit p r q → Orderly n L p

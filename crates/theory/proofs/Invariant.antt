@@ -1,10 +1,9 @@
 -- What a search keeps at every position, and what the clause that a look finds is.
-use Rattle.std.proofs.Common.{◌≡◌, ℕ, zero, suc, ◌+◌, ◌*◌, ◌^◌, ◌<◌, ◌≤◌, Bool, true, ◌⊎◌, List, ◌∷◌, length, ℤ, pos, negsuc, neg_ℤ, Some, All, sym, refl, ◌∙◌, inl, inr, mul-le-mul_right, suc-mul, arith}
+use Rattle.std.proofs.Common.{◌≡◌, ℕ, zero, suc, ◌+◌, ◌*◌, ◌^◌, ◌<◌, ◌≤◌, Bool, true, ◌⊎◌, List, ◌∷◌, length, ℤ, pos, negsuc, neg_ℤ, Some, All, sym, ◌∙◌, inl, inr, mul-le-mul_right, suc-mul, arith}
 use Rattle.std.proofs.lemmas.List.Elements.{All-head, All-tail}
-use mathlib.Core.Bool.{false≢true}
-use Rattle.std.proofs.lemmas.Bool.{cases_eq}
+use Rattle.std.proofs.lemmas.Bool.{cases_eq, or_left, or_right}
 use Rattle.rules.specs.Literals.{var, in_range, has}
-use Rattle.rules.specs.Clauses.{Status, Status.falsified, Status.unit, status, is_falsified, is_unit}
+use Rattle.rules.specs.Clauses.{Status.falsified, Status.unit, status, is_falsified, is_unit}
 use Rattle.rules.specs.Sources.{makes, true_in, Meaning, LawfulAt}
 use Rattle.rules.proofs.Literals.{has_first, has_later, all_has, any_has, var_cases, range_neg}
 use Rattle.rules.proofs.Statuses.{status_cong, asserting}
@@ -109,15 +108,6 @@ look_asserts n m p law w (told {C} e) =
     let k : status (true_in row) C ≡ status (on p.trail) C = status_cong (true_in row) (on p.trail) C
     (λ x h. (valuation_true n p.trail w (neg_ℤ x) (range_neg n x ∙ r x h), valuation_true n p.trail w x (r x h))) in
     elim (asserting (status (true_in row) C) c.asserts) [ inl f ↦ inl (sym k ∙ f) | inr f ↦ inr (f.0, sym k ∙ f.1) ]
-look_asserts n m p law w (falsified_slot {C} e f) = inl (is_false (status (on p.trail) C) (first_passes (falsified_on p.trail) f))
-  where
-    is_false : (s : Status) → is_falsified s ≡ true → s ≡ falsified
-    is_false falsified h = refl
-    is_false (unit l) h = absurd (false≢true h)
-    is_false Status.other h = absurd (false≢true h)
-look_asserts n m p law w (unit_slot {C} e z f) = inr (is_one (status (on p.trail) C) (first_passes (unit_on p.trail) f))
-  where
-    is_one : (s : Status) → is_unit s ≡ true → (l : ℤ) × (s ≡ unit l)
-    is_one falsified h = absurd (false≢true h)
-    is_one (unit l) h = (l, refl)
-    is_one Status.other h = absurd (false≢true h)
+look_asserts n m p law w (falsified_slot {C} e f) =
+    let s = status (on p.trail) C in asserting s (or_left (is_falsified s) (is_unit s) (first_passes (falsified_on p.trail) f))
+look_asserts n m p law w (unit_slot {C} e z f) = let s = status (on p.trail) C in asserting s (or_right (is_falsified s) (is_unit s) (first_passes (unit_on p.trail) f))

@@ -1,5 +1,5 @@
 -- Levels, and chunks by the rank of their decision. Nothing here asks that the trail is well formed.
-use Rattle.std.proofs.Common.{◌≡◌, ℕ, suc, ◌-◌, ◌<◌, ◌≤◌, min, max, Bool, true, false, cond, eqb, ◌⊎◌, List, [], ◌∷◌, length, ℤ, neg_ℤ, sym, refl, ap, ◌∙◌, inl, inr, true≢false, arith}
+use Rattle.std.proofs.Common.{◌≡◌, ℕ, suc, ◌-◌, ◌<◌, ◌≤◌, min, max, Bool, true, false, cond, eqb, List, [], ◌∷◌, length, ℤ, neg_ℤ, refl, ap, ◌∙◌, inl, inr, true≢false, arith}
 use mathlib.Core.Bool.{false≢true}
 use Rattle.std.proofs.lemmas.Bool.{cond_both, eqb-true, eqb-false, eq-eqb, or_cases, or_parts, or_left, or_right, cases_lt, cases_Bool}
 use Rattle.rules.specs.Literals.{same, has}
@@ -75,56 +75,37 @@ joins_level j f g h k (assumed l) e = absurd (false≢true e)
 joins_level j f g h k (decided l) e = let q = eqb-true (suc k) j e in omega arith
 joins_level j f g h k (implied l others) e = meets_highest j f g h others e
 
-either_level : (j : ℕ) (b x y : Bool) (p q : ℕ) → (x ≡ true → j ≤ p) → (y ≡ true → j ≤ q) → cond b x y ≡ true → j ≤ cond b p q
-either_level j true x y p q h k e = h e
-either_level j false x y p q h k e = k e
+-- what holds of two pairs holds of the one that a test takes
+cond_pair : {A B : Type 0} (P : A → B → Type 0) (b : Bool) (x y : A) (p q : B) → P x p → P y q → P (cond b x y) (cond b p q)
+cond_pair P true x y p q h k = h
+cond_pair P false x y p q h k = k
 
 pub rank_level : (j : ℕ) (t : Trail) (l : ℤ) → in_rank j t l ≡ true → j ≤ level t l
 rank_level j [] l e = absurd (false≢true e)
 rank_level j (e ∷ t) l p =
-    either_level j (same l (literal e)) (joins_rank j e (decisions t) (in_rank j t)) (in_rank j t l) (entry_level e (decisions t) (level t)) (level t l)
+    cond_pair (λ b k. b ≡ true → j ≤ k) (same l (literal e)) (joins_rank j e (decisions t) (in_rank j t)) (in_rank j t l) (entry_level e (decisions t) (level t)) (level t l)
     (joins_level j (in_rank j t) (level t) (rank_level j t) (decisions t) e) (rank_level j t l) p
 
 -- and a literal of level j is a member
-max_right : (x y : ℕ) → x ≤ y → max x y ≡ y
-max_right x y h = omega arith
-
-max_left : (x y : ℕ) → y ≤ x → max x y ≡ x
-max_left x y h = omega arith
-
-max_one : (a b j : ℕ) → max a b ≡ j → (a ≡ j) ⊎ (b ≡ j)
-max_one a b j e = elim (cases_lt a b) [ inl p ↦ inr (omega arith) | inr p ↦ inl (omega arith) ]
-
 pub highest_meets : (j : ℕ) → 0 < j → (f : ℤ → Bool) (g : ℤ → ℕ) → ((l : ℤ) → g l ≡ j → f l ≡ true) → (C : List ℤ) → highest g C ≡ j → meets f C ≡ true
 highest_meets j z f g h [] e = let q : ⊥ = omega arith in absurd q
-highest_meets j z f g h (k ∷ C) e = elim (max_one (g (neg_ℤ k)) (highest g C) j e)
-    [ inl p ↦ or_left (f (neg_ℤ k)) (meets f C) (h (neg_ℤ k) p) | inr p ↦ or_right (f (neg_ℤ k)) (meets f C) (highest_meets j z f g h C p) ]
+highest_meets j z f g h (k ∷ C) e = elim (cases_lt (g (neg_ℤ k)) (highest g C)) [
+  | inl p ↦ or_right (f (neg_ℤ k)) (meets f C) (highest_meets j z f g h C (omega arith))
+  | inr p ↦ or_left (f (neg_ℤ k)) (meets f C) (h (neg_ℤ k) (omega arith))
+]
 
 level_joins : (j : ℕ) → 0 < j → (f : ℤ → Bool) (g : ℤ → ℕ) → ((l : ℤ) → g l ≡ j → f l ≡ true) → (k : ℕ) (e : Entry) → entry_level e k g ≡ j → joins_rank j e k f ≡ true
 level_joins j z f g h k (assumed l) e = let q : ⊥ = omega arith in absurd q
 level_joins j z f g h k (decided l) e = eq-eqb (suc k) j e
 level_joins j z f g h k (implied l others) e = highest_meets j z f g h others e
 
-either_joins : (j : ℕ) (b x y : Bool) (p q : ℕ) → (p ≡ j → x ≡ true) → (q ≡ j → y ≡ true) → cond b p q ≡ j → cond b x y ≡ true
-either_joins j true x y p q h k e = h e
-either_joins j false x y p q h k e = k e
-
 pub level_rank : (j : ℕ) → 0 < j → (t : Trail) (l : ℤ) → level t l ≡ j → in_rank j t l ≡ true
 level_rank j z [] l e = let q : ⊥ = omega arith in absurd q
 level_rank j z (e ∷ t) l p =
-    either_joins j (same l (literal e)) (joins_rank j e (decisions t) (in_rank j t)) (in_rank j t l) (entry_level e (decisions t) (level t)) (level t l)
+    cond_pair (λ b k. k ≡ j → b ≡ true) (same l (literal e)) (joins_rank j e (decisions t) (in_rank j t)) (in_rank j t l) (entry_level e (decisions t) (level t)) (level t l)
     (level_joins j z (in_rank j t) (level t) (level_rank j z t) (decisions t) e) (level_rank j z t l) p
 
 -- the level of a literal outside of the chunk when that is undone
-lowered_mono : (j a b : ℕ) → a ≤ b → lowered j a ≤ lowered j b
-lowered_mono j a b h = omega arith
-
-lowered_max : (j a b : ℕ) → lowered j (max a b) ≡ max (lowered j a) (lowered j b)
-lowered_max j a b = elim (cases_lt a b) [
-  | inl p ↦ ap (lowered j) (max_right a b (omega arith)) ∙ sym (max_right (lowered j a) (lowered j b) (lowered_mono j a b (omega arith)))
-  | inr p ↦ ap (lowered j) (max_left a b p) ∙ sym (max_left (lowered j a) (lowered j b) (lowered_mono j b a p))
-]
-
 highest_lowered : (j : ℕ) → 0 < j → (f : ℤ → Bool) (g g' : ℤ → ℕ) → ((l : ℤ) → f l ≡ false → g' l ≡ lowered j (g l))
     → (C : List ℤ) → meets f C ≡ false → highest g' C ≡ lowered j (highest g C)
 highest_lowered j z f g g' h [] e = omega arith
@@ -132,7 +113,7 @@ highest_lowered j z f g g' h (k ∷ C) e =
     let c = or_parts (f (neg_ℤ k)) (meets f C) e in
     let p = h (neg_ℤ k) c.0 in
     let q = highest_lowered j z f g g' h C c.1 in
-    rw (p, q) (sym (lowered_max j (g (neg_ℤ k)) (highest g C)))
+    omega arith
 
 pub entry_lowered : (j : ℕ) → 0 < j → (f : ℤ → Bool) (g g' : ℤ → ℕ) → ((l : ℤ) → f l ≡ false → g' l ≡ lowered j (g l)) → (k k' : ℕ) → k' ≡ lowered j k
     → (e : Entry) → joins_rank j e k f ≡ false → entry_level e k' g' ≡ lowered j (entry_level e k g)

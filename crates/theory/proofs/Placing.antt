@@ -1,5 +1,5 @@
 -- A step that places a literal keeps what a search keeps, and raises the potential.
-use Rattle.std.proofs.Common.{◌≡◌, ℕ, ◌<◌, Bool, true, false, not, ◌⊎◌, List, ◌∷◌, ℤ, neg_ℤ, Some, All, sym, ◌∙◌, subst, inl, inr, arith}
+use Rattle.std.proofs.Common.{◌≡◌, ℕ, ◌<◌, true, false, not, ◌⊎◌, List, ◌∷◌, ℤ, neg_ℤ, Some, All, sym, ◌∙◌, subst, inl, inr, arith}
 use Rattle.std.proofs.lemmas.List.Elements.{All-weaker}
 use Rattle.std.proofs.lemmas.Bool.{or_cases, both_ways, not-true, not-false}
 use Rattle.rules.specs.Literals.{same, in_range, has}
@@ -20,9 +20,6 @@ use Rattle.theory.proofs.Invariant.{Settled, Orderly, potential, first_passes, f
 pub record Advances (n L : ℕ) (p p' : Position) : Type 0 where
   pub orderly : Orderly n L p'
   pub rises : potential n p < potential n p'
-
-pub none_passes : (test : ℤ → Bool) (xs : List ℤ) → NonePass test xs → (x : ℤ) → has xs x ≡ true → test x ≡ false
-none_passes test xs h x e = all_has (λ y. test y ≡ false) xs h x e
 
 module _ (n L : ℕ) (p : Position) (o : Orderly n L p) where
   settled_below : (e : Entry) → Placeable n p.trail e → All (Settled p.trail) p.assumptions → All (Settled (e ∷ p.trail)) p.assumptions
@@ -59,7 +56,7 @@ module _ (n L : ℕ) (p : Position) (o : Orderly n L p) where
       let pl : Placeable n p.trail (decided l) = record { unassigned = f; grounded = tt } in
       let now : All (Settled p.trail) p.assumptions = elim o.early [
         | inl z ↦ has_all (Settled p.trail) p.assumptions (λ x h.
-            (not-false (on p.trail x) (none_passes (missing p.trail) p.assumptions al x h), (let b = level_most p.trail x in omega arith)))
+            (not-false (on p.trail x) (all_has (λ y. missing p.trail y ≡ false) p.assumptions al x h), (let b = level_most p.trail x in omega arith)))
         | inr s ↦ s
       ] in
       placed_advances (decided l) pl (inr (settled_below (decided l) pl now)) o.rooted

@@ -1,5 +1,5 @@
 -- The chunk of a decision is that of its rank, and so is the trail without it.
-use Rattle.std.proofs.Common.{◌≡◌, ℕ, suc, ◌<◌, ◌≤◌, Bool, true, false, cond, not, eqb, List, [], ◌∷◌, ℤ, neg_ℤ, filter, sym, refl, ap, ◌∙◌, subst, inl, inr, arith}
+use Rattle.std.proofs.Common.{◌≡◌, ℕ, suc, ◌<◌, ◌≤◌, Bool, true, false, cond, not, List, [], ◌∷◌, ℤ, neg_ℤ, filter, sym, refl, ap, ◌∙◌, subst, inl, inr, arith}
 use mathlib.Core.Path.{fun_ext}
 use mathlib.Core.Bool.{false≢true}
 use Rattle.std.proofs.lemmas.Bool.{cond_both, or_cases, or_parts, or_left, or_right, cases_Bool, cases_lt, eq-eqb, ne_eqb}
@@ -32,10 +32,6 @@ joins_alike d j k f g h b (assumed l) p = p
 joins_alike d j k f g h b (decided l) p = p ∙ sym (ne_eqb (suc k) j (λ q. omega arith))
 joins_alike d j k f g h b (implied l others) p = meets_cong f g others (has_all (λ y. f (neg_ℤ y) ≡ g (neg_ℤ y)) others (λ y _. h (neg_ℤ y)))
 
-cond_cong : (b x y x' y' : Bool) → x ≡ x' → y ≡ y' → cond b x y ≡ cond b x' y'
-cond_cong true x y x' y' p q = p
-cond_cong false x y x' y' p q = q
-
 -- the decision has a rank, its level, and the chunks agree
 abbrev Ranked : Trail → ℤ → Type 0
 Ranked t d = (0 < level t d) × ((x : ℤ) → in_chunk d t x ≡ in_rank (level t d) t x)
@@ -49,8 +45,7 @@ ranked_above n e t d f h ih =
     let p = ih.0 in (
       omega arith,
       λ x. subst (λ k. in_chunk d (e ∷ t) x ≡ in_rank k (e ∷ t) x) (sym q)
-          (cond_cong (same x (literal e)) (joins d (in_chunk d t) e) (in_chunk d t x) (joins_rank (level t d) e (decisions t) (in_rank (level t d) t)) (in_rank (level t d) t x)
-          (joins_alike d (level t d) (decisions t) (in_chunk d t) (in_rank (level t d) t) ih.1 b e s) (ih.1 x)),
+          (λ i. cond (same x (literal e)) (joins_alike d (level t d) (decisions t) (in_chunk d t) (in_rank (level t d) t) ih.1 b e s i) (ih.1 x i)),
     )
 
 ranked_here : (t : Trail) (d : ℤ) → on t d ≡ false → Ranked (decided d ∷ t) d
@@ -58,9 +53,8 @@ ranked_here t d f =
     let q = level_top (decided d) t in (
       omega arith,
       λ x. subst (λ k. in_chunk d (decided d ∷ t) x ≡ in_rank k (decided d ∷ t) x) (sym q)
-          (cond_cong (same x d) (same d d) (in_chunk d t x) (eqb (suc (decisions t)) (suc (decisions t))) (in_rank (suc (decisions t)) t x)
-          (same_refl d ∙ sym (eq-eqb (suc (decisions t)) (suc (decisions t)) refl))
-          (chunk_empty d t f x ∙ sym (rank_empty (suc (decisions t)) t (omega arith) x))),
+          (λ i. cond (same x d) ((same_refl d ∙ sym (eq-eqb (suc (decisions t)) (suc (decisions t)) refl)) i)
+          ((chunk_empty d t f x ∙ sym (rank_empty (suc (decisions t)) t (omega arith) x)) i)),
     )
 
 pub ranked : (n : ℕ) (t : Trail) → WellFormed n t → (d : ℤ) → has (decided_literals t) d ≡ true → (0 < level t d) × ((x : ℤ) → in_chunk d t x ≡ in_rank (level t d) t x)
