@@ -6,8 +6,8 @@ use Rattle.std.proofs.lemmas.Bool.{cond-true, and_left, and_right, lt-ltb, le-lt
 use Rattle.rules.specs.Literals.{in_range, has}
 use Rattle.rules.specs.Sources.{makes, assignment}
 use Rattle.rules.proofs.Literals.{range_bounds}
-use Rattle.rules.proofs.Lists.{all_passes}
-use Rattle.rules.proofs.GroupTells.{pass_getD}
+use Rattle.std.proofs.lemmas.List.Elements.{All-get_or}
+use Rattle.std.proofs.lemmas.List.Sums.{AllPass-from_list_all, list_all-from_AllPass}
 use Rattle.rules.proofs.RowLaws.{pass_push}
 use Rattle.theory.specs.Trail.{Trail, on, assumed_literals}
 use Rattle.theory.specs.Search.{Verdict.model, Verdict.refuted}
@@ -42,10 +42,10 @@ joined_ranged n k ws l h a r = subst (λ xs. list_all (in_range n) xs ≡ true) 
 pub all_ranged : (n k : ℕ) (ws : List ℤ) → list_all (in_range n) (assumptions_of k ws) ≡ true → (i : ℕ) → i < k → in_range n (word_at ws i) ≡ true
 all_ranged n k ws a i h =
     let e = standing_long k ws in
-    ap (in_range n) (sym (get_or-map-range_with_len (word_at ws) 0 k i i (pos 0) h (omega arith))) ∙ pass_getD (in_range n) (assumptions_of k ws) i (pos 0) a (omega arith)
+    ap (in_range n) (sym (get_or-map-range_with_len (word_at ws) 0 k i i (pos 0) h (omega arith))) ∙ All-get_or (λ l. in_range n l ≡ true) (assumptions_of k ws) i (pos 0) (omega arith) (AllPass-from_list_all (in_range n) (assumptions_of k ws) a)
 
 pub ranged_all : (n k : ℕ) (ws : List ℤ) → ((i : ℕ) → i < k → in_range n (word_at ws i) ≡ true) → list_all (in_range n) (assumptions_of k ws) ≡ true
-ranged_all n k ws h = (all_passes (in_range n) (assumptions_of k ws)).1 (words_all (λ l. in_range n l ≡ true) ws 0 k (λ i b. subst (λ j. in_range n (word_at ws j) ≡ true) (sym (zero-add i)) (h i b)))
+ranged_all n k ws h = list_all-from_AllPass (in_range n) (assumptions_of k ws) (words_all (λ l. in_range n l ≡ true) ws 0 k (λ i b. subst (λ j. in_range n (word_at ws j) ≡ true) (sym (zero-add i)) (h i b)))
 
 module _ (n L : ℕ) (ls : List ℤ) (l : ℤ) where
   pub outside_promised : in_range n l ≡ false → Promised n L (idle ls) (assume l) (refused 2) (idle ls)

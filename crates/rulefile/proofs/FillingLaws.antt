@@ -17,7 +17,6 @@ use Rattle.rulefile.specs.declared.form.Start.TheVariants as S
 use Rattle.rulefile.specs.Words.{Seen, number, other, bad, end}
 use Rattle.rulefile.specs.Form.{Taken, negative, misfit, natural_next, start_next, with_literal, literals_next, literals_from}
 use Rattle.rulefile.specs.Outcomes.{Rule, clause, group, extended, Rules, all, broken, rule, between, limit, within, rules_in, Books, both, filled, told, placed, rule_read, clause_read, group_rule, group_read}
-use Rattle.rulefile.proofs.FormLaws.{err_ok}
 use Rattle.rulefile.proofs.RuleLaws.{ok_first, ok_second}
 
 -- THE RULES OF A TEXT
@@ -184,14 +183,14 @@ on (Ok x) rest = rest
 on (Err f) rest = Err f
 
 on_told : {X Y : Type 0} (r : Result X BookFault) (y : Y) (f : BookFault) (rest : Result Books BookFault) → Err f ≡ told r y → Err f ≡ on r rest
-on_told (Ok x) y f rest e = absurd (err_ok e)
+on_told (Ok x) y f rest e = cc
 on_told (Err g) y f rest e = let q : f ≡ g = cc in ap Err q
 
 on_placed : {X Y : Type 0} (k : Y → List Seen → Result Books BookFault) (r : Result X BookFault) (a : Reply) (p : Position) (x y : Y) (ts rest : List Seen)
     → told {Y = Y × List Seen} (placed a p) (x, ts) ≡ told r (y, rest) → elim a as (λ _. Result Books BookFault) [ Ok u ↦ k x ts | Err e ↦ Err (B.Book e p) ] ≡ on r (k y rest)
 on_placed k (Ok z) (Ok u) p x y ts rest e = let a = ok_first e in let b = ok_second e in cc
-on_placed k (Ok z) (Err f) p x y ts rest e = absurd (err_ok e)
-on_placed k (Err g) (Ok u) p x y ts rest e = absurd (err_ok (sym e))
+on_placed k (Ok z) (Err f) p x y ts rest e = cc
+on_placed k (Err g) (Ok u) p x y ts rest e = cc
 on_placed {X} {Y} k (Err g) (Err f) p x y ts rest e = on_told {X = X} {Y = Y × List Seen} (Err g) (y, rest) (B.Book f p) (k y rest) e
 
 -- a rule with all its literals

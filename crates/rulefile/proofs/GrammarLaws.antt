@@ -15,29 +15,25 @@ use Rattle.rulefile.specs.Words.{Seen, number, other, bad, end}
 use Rattle.rulefile.specs.Form.{Taken, negative, misfit, limited, count_next, word_next, and_then, opening, with_literal, literals_next, literals_from}
 use Rattle.rulefile.specs.Outcomes.{Rule, clause, group, extended, Rules, all, broken, rule, between, limit, within, rules_in, Books, fresh, answer, with_rule, filled, counted, opened, outcome}
 use Rattle.rulefile.specs.Grammar.{Literals, no_more, one_more, RuleIn, clause_in, group_in, RulesIn, no_rule, one_rule, HeadIn, head, clauses_of, File, takes}
-use Rattle.rulefile.proofs.FormLaws.{err_ok}
 use Rattle.rulefile.proofs.RuleLaws.{ok_first, ok_second}
+use Rattle.rules.proofs.RowLaws.{zero_word}
 use Rattle.rulefile.proofs.FillingLaws.{ruled, clause_all, group_all, number_ruled, within_ruled}
 
 -- LITERALS
 
-zero_is : (z : ℤ) → is_zero z ≡ true → z ≡ pos 0
-zero_is (pos n) e = ap pos (eqb-true n 0 e)
-zero_is (negsuc n) e = absurd (let q = eqb-true (suc n) 0 e in omega arith)
-
 with_literal_ok : (z : ℤ) (L : Taken (List ℤ)) (ls : List ℤ) (rest : List Seen) → with_literal z L ≡ Ok (ls, rest) → (ms : List ℤ) × (L ≡ Ok (ms, rest)) × (ls ≡ z ∷ ms)
 with_literal_ok z (Ok t) ls rest e = (t.0, ap (λ k. Ok (t.0, k)) (ok_second e), sym (ok_first e))
-with_literal_ok z (Err f) ls rest e = absurd (err_ok e)
+with_literal_ok z (Err f) ls rest e = cc
 
 literals_sound : (ts : List Seen) (ls : List ℤ) (rest : List Seen) → literals_next ts ≡ Ok (ls, rest) → Literals ts ls rest
-literals_sound [] ls rest e = absurd (err_ok e)
-literals_sound (other w p ∷ ts) ls rest e = absurd (err_ok e)
-literals_sound (bad f ∷ ts) ls rest e = absurd (err_ok e)
-literals_sound (end p ∷ ts) ls rest e = absurd (err_ok e)
+literals_sound [] ls rest e = cc
+literals_sound (other w p ∷ ts) ls rest e = cc
+literals_sound (bad f ∷ ts) ls rest e = cc
+literals_sound (end p ∷ ts) ls rest e = cc
 literals_sound (number w z p ∷ ts) ls rest e = by (is_zero z) refl e (literals_sound ts)
   where
     by : (t : Bool) → is_zero z ≡ t → cond t (Ok ([], ts)) (with_literal z (literals_next ts)) ≡ Ok (ls, rest) → ((ms : List ℤ) (k : List Seen) → literals_next ts ≡ Ok (ms, k) → Literals ts ms k) → Literals (number w z p ∷ ts) ls rest
-    by true h q ih = subst (λ k. Literals (number w k p ∷ ts) ls rest) (sym (zero_is z h))
+    by true h q ih = subst (λ k. Literals (number w k p ∷ ts) ls rest) (sym (zero_word z h))
         (subst (λ k. Literals (number w (pos 0) p ∷ ts) k rest) (ok_first q) (subst (λ k. Literals (number w (pos 0) p ∷ ts) [] k) (ok_second q) (no_more w p ts)))
     by false h q ih =
         let r = with_literal_ok z (literals_next ts) ls rest q in
@@ -86,9 +82,6 @@ ruled_whole : (n : ℕ) (r : Rule) (p : Position) (ls : Taken (List ℤ)) (rs : 
 ruled_whole n r p (Err f) rs w = absurd w
 ruled_whole n r p (Ok t) [] w = absurd w
 ruled_whole n r p (Ok t) (s ∷ rs) (e, w) = record { literals = t.0; after = t.1; is = refl; more = rs; rules = ap (λ k. k ∷ rs) (sym e); whole = w }
-
-same_bytes : (xs ys : List ℕ) → bytes_eq xs ys ≡ true → xs ≡ ys
-same_bytes xs ys e = (bytes_eq-Decides xs ys).0 e
 
 plain_is : (z : ℤ) → negative z ≡ false → z ≡ pos (nat_abs z)
 plain_is (pos n) e = refl
@@ -157,7 +150,7 @@ rules_sound (suc k) n (number v z p ∷ ts) rs l w = by (eqb n 0) refl w (rules_
 rules_sound (suc k) n (other v p ∷ ts) rs l w = by (bytes_eq v (codes "a")) refl w (rules_sound k)
   where
     by : (t : Bool) → bytes_eq v (codes "a") ≡ t → Whole (cond t (rules_in n (limit p) ts) (broken (F.Form NotAllowed p))) rs → Sounds k → Sound n (other v p ∷ ts) rs
-    by true e w ih = subst (λ x. Sound n (other x p ∷ ts) rs) (sym (same_bytes v (codes "a") e)) (limit_sound k n p ts rs (omega arith) ih w)
+    by true e w ih = subst (λ x. Sound n (other x p ∷ ts) rs) (sym ((bytes_eq-Decides v (codes "a")).0 e)) (limit_sound k n p ts rs (omega arith) ih w)
     by false e w ih = absurd w
 
 -- the other way: a rule is read as such
@@ -203,13 +196,13 @@ record Filled (b : Books) (R : Rules) (b' : Books) : Type 0 where
 
 filled_sound : (R : Rules) (b b' : Books) → filled b R ≡ Ok b' → Filled b R b'
 filled_sound all b b' e = record { rules = []; whole = tt; taken = tt; is = sym (cc) }
-filled_sound (broken f) b b' e = absurd (err_ok e)
+filled_sound (broken f) b b' e = cc
 filled_sound (rule r p rest) b b' e = by (answer b r) refl e (filled_sound rest (with_rule b r) b')
   where
     by : (a : Reply) → answer b r ≡ a → elim a as (λ _. Result Books BookFault) [ Ok _ ↦ filled (with_rule b r) rest | Err f ↦ Err (B.Book f p) ] ≡ Ok b'
         → (filled (with_rule b r) rest ≡ Ok b' → Filled (with_rule b r) rest b') → Filled b (rule r p rest) b'
     by (Ok u) q h ih = let i = ih h in record { rules = r ∷ i.rules; whole = (refl, i.whole); taken = (q, i.taken); is = i.is }
-    by (Err f) q h ih = absurd (err_ok h)
+    by (Err f) q h ih = cc
 
 filled_complete : (R : Rules) (rs : List Rule) (b : Books) → Whole R rs → takes b rs → filled b R ≡ Ok (fold with_rule b rs)
 filled_complete all [] b w t = refl
@@ -225,18 +218,18 @@ filled_complete (rule r p rest) (s ∷ rs) b (e, w) (a, t) =
 
 and_then_ok : {X Y : Type 0} (t : Taken X) (next : List Seen → Taken Y) (y : Y × List Seen) → and_then t next ≡ Ok y → (x : X × List Seen) × (t ≡ Ok x) × (next x.1 ≡ Ok y)
 and_then_ok (Ok x) next y e = (x, refl, e)
-and_then_ok (Err f) next y e = absurd (err_ok e)
+and_then_ok (Err f) next y e = cc
 
 word_ok : (key : List ℕ) (ts : List Seen) (x : Unit {0} × List Seen) → word_next key ts ≡ Ok x → (p : Position) × (ts ≡ other key p ∷ x.1)
-word_ok key [] x e = absurd (err_ok e)
-word_ok key (number w z p ∷ ts) x e = absurd (err_ok e)
-word_ok key (bad f ∷ ts) x e = absurd (err_ok e)
-word_ok key (end p ∷ ts) x e = absurd (err_ok e)
+word_ok key [] x e = cc
+word_ok key (number w z p ∷ ts) x e = cc
+word_ok key (bad f ∷ ts) x e = cc
+word_ok key (end p ∷ ts) x e = cc
 word_ok key (other w p ∷ ts) x e = by (bytes_eq w key) refl e
   where
     by : (t : Bool) → bytes_eq w key ≡ t → cond t (Ok (tt, ts)) (misfit NotAllowed p) ≡ Ok x → (q : Position) × (other w p ∷ ts ≡ other key q ∷ x.1)
-    by true h q = (p, let i = same_bytes w key h in let j = ok_second q in cc)
-    by false h q = absurd (err_ok q)
+    by true h q = (p, let i = (bytes_eq-Decides w key).0 h in let j = ok_second q in cc)
+    by false h q = cc
 
 record CountAt (most : ℕ) (ts : List Seen) (x : Number ℕ) (rest : List Seen) : Type 0 where
   word : List ℕ
@@ -245,16 +238,16 @@ record CountAt (most : ℕ) (ts : List Seen) (x : Number ℕ) (rest : List Seen)
   low : x.value ≤ most
 
 count_ok : (most : ℕ) (ts : List Seen) (x : Number ℕ) (rest : List Seen) → count_next most ts ≡ Ok (x, rest) → CountAt most ts x rest
-count_ok most [] x rest e = absurd (err_ok e)
-count_ok most (other w p ∷ ts) x rest e = absurd (err_ok e)
-count_ok most (bad f ∷ ts) x rest e = absurd (err_ok e)
-count_ok most (end p ∷ ts) x rest e = absurd (err_ok e)
+count_ok most [] x rest e = cc
+count_ok most (other w p ∷ ts) x rest e = cc
+count_ok most (bad f ∷ ts) x rest e = cc
+count_ok most (end p ∷ ts) x rest e = cc
 count_ok most (number w z p ∷ ts) x rest e = by (negative z) refl (ltb most (nat_abs z)) refl e
   where
     by : (s : Bool) → negative z ≡ s → (t : Bool) → ltb most (nat_abs z) ≡ t
         → limited most (cond s (misfit NotAllowed p) (Ok (record { value = nat_abs z; at = p }, ts))) ≡ Ok (x, rest) → CountAt most (number w z p ∷ ts) x rest
-    by true h t i q = absurd (err_ok q)
-    by false h true i q = absurd (err_ok (sym (cond-true (ltb most (nat_abs z)) _ _ i) ∙ q))
+    by true h t i q = cc
+    by false h true i q = let j = sym (cond-true (ltb most (nat_abs z)) _ _ i) ∙ q in cc
     by false h false i q =
         let j = sym (cond-false (ltb most (nat_abs z)) _ _ i) ∙ q in
         let v : nat_abs z ≡ x.value = ap (λ (k : Number ℕ). k.value) (ok_first j) in
@@ -273,11 +266,11 @@ head_sound : (c g : ℕ) (ts : List Seen) (b : Books) → outcome c g ts ≡ Ok 
 head_sound c g ts b e = by (opening ts) refl e
   where
     by : (t : Taken (Number ℕ)) → opening ts ≡ t → opened c g t ≡ Ok b → Headed c g ts b
-    by (Err f) q h = absurd (err_ok h)
+    by (Err f) q h = cc
     by (Ok t) q h = on (count_next 65535 t.1) refl h
       where
         on : (u : Taken (Number ℕ)) → count_next 65535 t.1 ≡ u → counted (fresh t.0.value c g) u ≡ Ok b → Headed c g ts b
-        on (Err f) i k = absurd (err_ok k)
+        on (Err f) i k = cc
         on (Ok u) i k =
             let x = and_then_ok (word_next (codes "p") ts) (λ rest. and_then (word_next (codes "cnf") rest) (count_next 1000)) t q in
             let y = and_then_ok (word_next (codes "cnf") x.0.1) (count_next 1000) t x.2 in

@@ -1,6 +1,5 @@
 mod NumberLaws
 mod WordLaws
-mod SizeLaws
 mod FormLaws
 mod RuleLaws
 mod FillingLaws

@@ -13,22 +13,14 @@ use Rattle.rulefile.specs.declared.faults.BookFault.TheVariants as B
 use Rattle.rulefile.specs.declared.form.Number.{Number}
 use Rattle.rulefile.specs.Form.{Taken, number_next}
 use Rattle.rulefile.specs.Outcomes.{told, pushes, placed, rule_read, clause_read, group_rule, group_read}
-use Rattle.rulefile.proofs.FormLaws.{err_ok, literals_of, literals_number}
+use Rattle.rulefile.proofs.FormLaws.{literals_of, literals_number}
 
 -- the two parts of a result
 pub ok_first : {X Y E : Type 0} {x x' : X} {y y' : Y} → ◌≡◌ {A = Result (X × Y) E} (Ok (x, y)) (Ok (x', y')) → x ≡ x'
-ok_first {X} {Y} {E} {x} e = ap first e
-  where
-    first : Result (X × Y) E → X
-    first (Ok t) = t.0
-    first (Err f) = x
+ok_first {X} {Y} {E} {x} {x'} {y} {y'} e = let p : ◌≡◌ {A = X × Y} (x, y) (x', y') = cc in ap (λ k. k.0) p
 
 pub ok_second : {X Y E : Type 0} {x x' : X} {y y' : Y} → ◌≡◌ {A = Result (X × Y) E} (Ok (x, y)) (Ok (x', y')) → y ≡ y'
-ok_second {X} {Y} {E} {x} {x'} {y} e = ap second e
-  where
-    second : Result (X × Y) E → Y
-    second (Ok t) = t.1
-    second (Err f) = y
+ok_second {X} {Y} {E} {x} {x'} {y} {y'} e = let p : ◌≡◌ {A = X × Y} (x, y) (x', y') = cc in ap (λ k. k.1) p
 
 -- literals that were all pushed
 record Pushed {B : Type 0} (push : B → ℤ → B) (b : B) (ls : Taken (List ℤ)) (b' : B) (rest : List Seen) : Type 0 where
@@ -38,7 +30,7 @@ record Pushed {B : Type 0} (push : B → ℤ → B) (b : B) (ls : Taken (List �
 
 pushes_ok : {B : Type 0} (push : B → ℤ → B) (b : B) (ls : Taken (List ℤ)) (b' : B) (rest : List Seen) → pushes push b ls ≡ Ok (b', rest) → Pushed push b ls b' rest
 pushes_ok push b (Ok t) b' rest e = record { literals = t.0; is = ap (λ k. Ok (t.0, k)) (ok_second e); book = sym (ok_first e) }
-pushes_ok push b (Err f) b' rest e = absurd (err_ok e)
+pushes_ok push b (Err f) b' rest e = cc
 
 -- A book whose pushes and end come to its answer to the whole rule.
 module _ {B : Type 0} (push : B → ℤ → B) (ending : B → Reply) (left : B → Reply → B) (reply : List ℤ → Reply) (after : List ℤ → Reply → B) (b : B)
@@ -76,7 +68,7 @@ group_first b p limit k ts e next n = ap (group_read b p) e ∙ ap (group_rule b
 
 -- literals that could not all be pushed
 pushes_err : {B : Type 0} (push : B → ℤ → B) (b : B) (ls : Taken (List ℤ)) (f : FormFault) → pushes push b ls ≡ Err f → ls ≡ Err f
-pushes_err push b (Ok t) f e = absurd (err_ok (sym e))
+pushes_err push b (Ok t) f e = cc
 pushes_err push b (Err g) f e = let q : g ≡ f = cc in ap Err q
 
 pub group_broken : (k : ℕ) (b : G.Filling) (p : Position) (ls : Taken (List ℤ)) (f : FormFault) → pushes G.pushed b ls ≡ Err f → group_rule b k p ls ≡ Err (B.Form f)

@@ -14,7 +14,6 @@ use Rattle.rulefile.specs.declared.faults.BookFault.{BookFault}
 use Rattle.rulefile.specs.Words.{Seen}
 use Rattle.rulefile.specs.Outcomes.{Rule, clause, group, Books, with_rule, outcome, told}
 use Rattle.rulefile.specs.Grammar.{clauses_of, groups_of, holding, meaning, Accepted, Judged}
-use Rattle.rulefile.proofs.FormLaws.{err_ok}
 use Rattle.rulefile.proofs.GrammarLaws.{file_sound, file_complete, file_once}
 
 -- WHAT THE BOOKS HOLD
@@ -76,4 +75,4 @@ accepted c g ts b e =
 
 pub judged : {X : Type 0} (r : Result X BookFault) (c g : ℕ) (ts : List Seen) (b : Books) → told r b ≡ outcome c g ts → Judged r c g ts b
 judged (Ok x) c g ts b e = accepted c g ts b (sym e)
-judged (Err f) c g ts b e = λ n rules file taken. err_ok (e ∙ file_complete c g ts n rules file taken)
+judged (Err f) c g ts b e = λ n rules file taken. cc (file_complete c g ts n rules file taken)

@@ -6,7 +6,7 @@ ghost use Rattle.rulefile.specs.Ahead.{ahead};
 ghost use Rattle.rulefile.specs.Form.{natural_next, literals_from};
 ghost use Rattle.rulefile.specs.Words.{seen_in};
 ghost use Rattle.rulefile.specs.Grammar.{Judged};
-ghost use Rattle.rulefile.specs.Outcomes.{rules_in, between, books, filled, body, rest_outcome, outcome, told, failed, SameSizes, GivenUp, pushes, clause_read, group_read};
+ghost use Rattle.rulefile.specs.Outcomes.{rules_in, between, books, fresh, filled, rest_outcome, outcome, told, failed, SameSizes, GivenUp, pushes, clause_read, group_read};
 
 use crate::faults::{BookFault, FormFault};
 use crate::form::reading::{next_natural, next_number, next_start, read_count, read_variables};
@@ -34,6 +34,8 @@ fn push_literals<B: Book>(
 }
 
 /// A clause, from its first number on.
+// Nothing is being written in a book when a rule begins: `reset` leaves it so, and so does `end`. Literals that are pushed one by
+// one join whatever is being written, so the rule's own contract has to ask for it.
 fn read_clause(
     reader: &mut Reader<'_>,
     book: &mut ClauseBook<'_>,
@@ -65,19 +67,20 @@ fn read_group(
         .map_err(|refusal| BookFault::Book(refusal, at))
 }
 
-/// The rules of a file that has `count` clauses.
+/// The rules of a file that has so many variables and `count` clauses, into the books, which it empties first.
 // The two books are parameters of their own: of a struct that lends both, a contract can say only by place what is left in each.
 fn read_rules(
     reader: &mut Reader<'_>,
+    variables: u32,
+    count: u32,
     clauses: &mut ClauseBook<'_>,
     groups: &mut GroupBook<'_>,
-    count: u32,
 ) -> Result<(), BookFault>
-    requires clauses { clausebook.clean (clausebook.filling clauses.old) ≡ clausebook.filling clauses.old }
-    requires groups { groupbook.clean (groupbook.filling groups.old) ≡ groupbook.filling groups.old }
-    ensures read { filled (books clauses.old groups.old) (rules_in count between (ahead reader.old)) ≡ told result (books clauses.new groups.new) }
+    ensures read { filled (fresh variables (clausebook.filling clauses.old).size (groupbook.filling groups.old).size) (rules_in count between (ahead reader.old)) ≡ told result (books clauses.new groups.new) }
     ensures sized { SameSizes clauses.old clauses.new groups.old groups.new }
 {
+    clauses.reset(variables);
+    groups.reset(variables);
     let mut left = count;
     while let Some(start) = next_start(reader, left)? {
         match start {
@@ -92,18 +95,18 @@ fn read_rules(
 }
 
 /// The number of clauses, and the rules.
+// The two books by themselves, here and in what follows, as where the rules are read.
 fn read_body(
     reader: &mut Reader<'_>,
+    variables: u32,
     clauses: &mut ClauseBook<'_>,
     groups: &mut GroupBook<'_>,
 ) -> Result<(), BookFault>
-    requires clauses { clausebook.clean (clausebook.filling clauses.old) ≡ clausebook.filling clauses.old }
-    requires groups { groupbook.clean (groupbook.filling groups.old) ≡ groupbook.filling groups.old }
-    ensures read { body (books clauses.old groups.old) (ahead reader.old) ≡ told result (books clauses.new groups.new) }
+    ensures read { rest_outcome (clausebook.filling clauses.old).size (groupbook.filling groups.old).size variables (ahead reader.old) ≡ told result (books clauses.new groups.new) }
     ensures sized { SameSizes clauses.old clauses.new groups.old groups.new }
 {
     let count = read_count(reader)?;
-    read_rules(reader, clauses, groups, count.value)
+    read_rules(reader, variables, count.value, clauses, groups)
 }
 
 /// Reads a file from its number of clauses on into the books, which it empties first; the file has so many variables.
@@ -117,9 +120,7 @@ pub fn read_rest(
     ensures outcome { told result (books clauses.new groups.new) ≡ rest_outcome (clausebook.filling clauses.old).size (groupbook.filling groups.old).size variables (ahead reader.entry) }
     ensures emptied { failed result (GivenUp clauses.old clauses.new groups.old groups.new) }
 {
-    clauses.reset(variables);
-    groups.reset(variables);
-    let read = read_body(&mut reader, clauses, groups);
+    let read = read_body(&mut reader, variables, clauses, groups);
     if read.is_err() {
         clauses.reset(0);
         groups.reset(0);

@@ -1,5 +1,5 @@
 -- Laws of answers.
-use Rattle.std.proofs.Common.{◌≡◌, Bool, true, false, cond, List, [], ◌∷◌, ℤ, All, refl, ap, ◌∙◌}
+use Rattle.std.proofs.Common.{◌≡◌, Bool, true, false, cond, List, [], ◌∷◌, ℤ, All, sym, refl, ap, ◌∙◌}
 use Rattle.std.proofs.lemmas.List.Elements.{All-nil, All-cons, All-head, All-tail}
 use Rattle.std.proofs.lemmas.Bool.{cond_both, cond-true, cond-false}
 use Rattle.rules.specs.Sources.{Answer, Answer.silent, Answer.tells, tell_first, or_else}
@@ -20,13 +20,13 @@ module _ {A : Type 0} (p : A → Bool) (p-clause : A → List ℤ) (q : A → Bo
   told_with found xs = tell_first p p-clause xs (or_else found (tell_first q q-clause xs silent))
 
   -- what is found with one rule more
-  abbrev pub found_with : Answer → A → Answer
+  abbrev found_with : Answer → A → Answer
   found_with found x = cond (q x) (or_else found (tells (q-clause x))) found
 
   pub told_hit : (found : Answer) (x : A) (xs : List A) → p x ≡ true → told_with found (x ∷ xs) ≡ tells (p-clause x)
   told_hit found x xs h = cond-true (p x) (tells (p-clause x)) (tell_first p p-clause xs (or_else found (tell_first q q-clause (x ∷ xs) silent))) h
 
-  pub told_next : (found : Answer) (x : A) (xs : List A) → p x ≡ false → told_with found (x ∷ xs) ≡ told_with (found_with found x) xs
+  told_next : (found : Answer) (x : A) (xs : List A) → p x ≡ false → told_with found (x ∷ xs) ≡ told_with (found_with found x) xs
   told_next found x xs h =
       let rest = tell_first q q-clause xs silent in
       cond-false (p x) (tells (p-clause x)) (tell_first p p-clause xs (or_else found (cond (q x) (tells (q-clause x)) rest))) h
@@ -36,3 +36,9 @@ module _ {A : Type 0} (p : A → Bool) (p-clause : A → List ℤ) (q : A → Bo
       by true silent rest = refl
       by true (tells C) rest = refl
       by false a rest = refl
+
+  pub told_second : (found : Answer) (x : A) (xs : List A) → p x ≡ false → q x ≡ true → told_with (or_else found (tells (q-clause x))) xs ≡ told_with found (x ∷ xs)
+  told_second found x xs h k = ap (λ a. told_with a xs) (sym (cond-true (q x) (or_else found (tells (q-clause x))) found k)) ∙ sym (told_next found x xs h)
+
+  pub told_neither : (found : Answer) (x : A) (xs : List A) → p x ≡ false → q x ≡ false → told_with found xs ≡ told_with found (x ∷ xs)
+  told_neither found x xs h k = ap (λ a. told_with a xs) (sym (cond-false (q x) (or_else found (tells (q-clause x))) found k)) ∙ sym (told_next found x xs h)

@@ -4,7 +4,7 @@ use Rattle.std.specs.List.{list_all}
 use Rattle.std.proofs.lemmas.List.Elements.{All-contains, All-contains_itself, All-weaker}
 use Rattle.std.proofs.lemmas.Bool.{both_ways}
 use Rattle.rules.specs.Sources.{assignment, true_in, Full, Answer, Answer.silent, Answer.tells, Meaning, ToldClause, LawfulAt, tell_first}
-use Rattle.rules.proofs.Lists.{all_passes}
+use Rattle.std.proofs.lemmas.List.Sums.{AllPass-from_list_all, list_all-from_AllPass}
 use Rattle.rules.specs.SourceLaws.{Telling, tells_apart}
 use Rattle.rules.proofs.AnswerLaws.{tell_first_both}
 
@@ -41,7 +41,7 @@ module _ {A : Type 0} (n : ℕ) (k : Kind A) (fits : A → Bool) (laws : (x : A)
   each P h = All-weaker (Contains xs) P h xs (All-contains_itself xs)
 
   passes : (p : A → Bool) → list_all p xs ≡ true → (x : A) → Contains xs x → p x ≡ true
-  passes p h x i = All-contains (λ y. p y ≡ true) xs x ((all_passes p xs).0 h) i
+  passes p h x i = All-contains (λ y. p y ≡ true) xs x (AllPass-from_list_all p xs h) i
 
   law : (x : A) → Contains xs x → RuleLaws n k x
   law x i = laws x (passes fits fit x i)
@@ -69,7 +69,7 @@ module _ {A : Type 0} (n : ℕ) (k : Kind A) (fits : A → Bool) (laws : (x : A)
       let bs = assignment n (true_in row) in
       answer_both row (λ a. a ≡ silent → list_all (k.keeps bs) xs ≡ true)
       (λ x i h e. absurd (tells_apart (k.first_clause row x) e)) (λ x i h e. absurd (tells_apart (k.second_clause row x) e))
-      (λ h e. (all_passes (k.keeps bs) xs).1 (each (λ x. k.keeps bs x ≡ true) (λ x i. (law x i).quiet row full (All-contains (λ y. k.first row y ≡ false) xs x h i))))
+      (λ h e. list_all-from_AllPass (k.keeps bs) xs (each (λ x. k.keeps bs x ≡ true) (λ x i. (law x i).quiet row full (All-contains (λ y. k.first row y ≡ false) xs x h i))))
 
   book_admitted : (row : List ℤ) → Full n row → (book n k xs).admits (assignment n (true_in row)) ≡ true → (book n k xs).answer row ≡ silent
   book_admitted row full h =

@@ -12,7 +12,7 @@ use Rattle.rules.specs.RowBuffers as B
 use Rattle.rules.specs.Drafts.{unless, Reply, reply}
 use Rattle.rules.specs.declared.refusal.Refusal.{Refusal}
 use Rattle.rules.specs.declared.refusal.Refusal.TheVariants.{NoVariable, NoRoom}
-use Rattle.rules.specs.ClauseFilling.{Filling, clauses_of, writing, clean, faulted, extended, written, noted, pushed, no_place, ending, settled, once_after, once, answer_to}
+use Rattle.rules.specs.ClauseFilling.{Filling, writing, clean, faulted, extended, written, noted, pushed, no_place, ending, settled, once_after, once, answer_to}
 use Rattle.rules.proofs.Literals.{has_push, same_true, eq_same}
 use Rattle.rules.proofs.RowLaws.{pass_push}
 use Rattle.rules.proofs.RowBuffers.{pushed_both}
@@ -53,18 +53,6 @@ kept_pushed k b l h r e =
     pushed_both b l (Kept k) (λ _ _. h)
     (λ f. (h.0, subst (λ x. unless x fits (b.draft ++ (l ∷ [])) ≡ true) (sym f) (fits_push b.variables b.draft l (subst (λ x. unless x fits b.draft ≡ true) f h.1) r e), h.2))
     (h.0, refl, h.2)
-
-pub clause_pushed : (b : Content) (l : ℤ) → in_range b.variables l ≡ true → has b.draft l ≡ false → clauses_of (B.pushed b l) ≡ pushed (clauses_of b) l
-clause_pushed b l r e = by b.fault ∙ sym (cond-true (in_range b.variables l) (noted (clauses_of b) l b.fault) (faulted (clauses_of b) NoVariable) r)
-  where
-    by : (f : Option Refusal) → clauses_of (B.noted b l f) ≡ noted (clauses_of b) l f
-    by (Some x) = refl
-    by None =
-        let c = clauses_of b in
-        cond_both (ltb (words_of b.standing + length b.draft) b.size) (B.writing b (b.draft ++ (l ∷ [])) b.fault) (B.writing b b.draft (Some NoRoom)) (λ d. clauses_of d ≡ written c l)
-        (λ t. sym (cond-true (ltb (words_of c.clauses + length c.draft) c.size) (extended c l) (faulted c NoRoom) t))
-        (λ t. sym (cond-false (ltb (words_of c.clauses + length c.draft) c.size) (extended c l) (faulted c NoRoom) t))
-        ∙ sym (cond-false (has b.draft l) (clauses_of b) (written (clauses_of b) l) e)
 
 -- A CLAUSE LITERAL BY LITERAL
 

@@ -3,6 +3,7 @@ use Rattle.std.proofs.Common.{◌≡◌, ℕ, ◌≤◌, Bool, true, false, not,
 use lib.IntN.{neg_ℤ-neg_ℤ}
 use Rattle.std.specs.List.{list_all}
 use Rattle.std.proofs.lemmas.Bool.{both_ways, cases_Bool, and_parts, or_parts, or_left, or_right, ne_eqb, not-true}
+use Rattle.std.proofs.lemmas.List.Sums.{AllPass-from_list_all}
 use Rattle.rules.specs.Literals.{var, same, in_range, has, Once}
 use Rattle.rules.specs.Clauses.{status, by_loose, is_falsified, is_unit}
 use Rattle.rules.specs.Sources.{makes, satisfies, assignment, true_in, Full, Meaning, ToldClause, Lawful}
@@ -10,7 +11,7 @@ use Rattle.rules.specs.Books.{clause_book, no_repeat, clause_fits}
 use Rattle.rules.proofs.Literals.{same_true, var_neg, var_cases, neg_apart, range_bounds, has_first, has_later, all_has, has_all, any_has, has_any}
 use Rattle.rules.proofs.Statuses.{falsified_all, unit_at, asserting}
 use Rattle.rules.proofs.Valuations.{one_true, full_neg, full_makes}
-use Rattle.rules.proofs.Lists.{all_passes, asserts, none_loose, all_names}
+use Rattle.rules.proofs.Lists.{asserts, none_loose, all_names}
 use Rattle.rules.proofs.BookLaws.{Kind, Obeys, RuleLaws, book_lawful}
 
 -- a falsified or unit clause that has both a literal and its negation has the literal false
@@ -98,7 +99,7 @@ module _ (n : ℕ) (C : List ℤ) (ranged : (x : ℤ) → has C x ≡ true → i
 clause_laws : (n : ℕ) (C : List ℤ) → clause_fits n C ≡ true → RuleLaws n clauses C
 clause_laws n C fits =
     let r = and_parts (list_all (in_range n) C) (no_repeat C) fits in
-    let ranged = all_has (λ l. in_range n l ≡ true) C ((all_passes (in_range n) C).0 r.0) in
+    let ranged = all_has (λ l. in_range n l ≡ true) C (AllPass-from_list_all (in_range n) C r.0) in
     let falsified : List ℤ → Bool = λ row. is_falsified (status (true_in row) C) in
     let unit : List ℤ → Bool = λ row. is_unit (status (true_in row) C) in
     record {

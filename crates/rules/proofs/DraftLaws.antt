@@ -1,16 +1,12 @@
 -- Laws of a rule that is being written.
-use Rattle.std.proofs.Common.{◌≡◌, ℕ, Bool, true, false, List, [], ◌∷◌, ℤ, Some, None, Ok, Err, fold, Option, sym, refl, ap, ◌∙◌, arith}
+use Rattle.std.proofs.Common.{◌≡◌, Bool, true, false, List, [], ◌∷◌, ℤ, Some, None, Ok, fold, Option, sym, refl, ap, ◌∙◌}
 use Rattle.rules.specs.Drafts.{Reply, reply}
 use Rattle.rules.specs.declared.refusal.Refusal.{Refusal}
-use Rattle.rules.specs.declared.refusal.Refusal.TheVariants.{NoRoom}
 
 -- a rule that is taken has earned no refusal, and the book is not full for it
-err_ok : (r : Refusal) → ◌≡◌ {A = Reply} (Err r) (Ok tt) → ⊥
-err_ok r e = let z : ◌≡◌ {A = ℕ} 0 1 = cc in omega arith
-
 pub reply_ok : (f : Option Refusal) (full : Bool) → reply f full ≡ Ok tt → (f ≡ None) × (full ≡ false)
-reply_ok (Some r) full e = absurd (err_ok r e)
-reply_ok None true e = absurd (err_ok NoRoom e)
+reply_ok (Some r) full e = cc
+reply_ok None true e = cc
 reply_ok None false e = (refl, refl)
 
 -- A RULE LITERAL BY LITERAL

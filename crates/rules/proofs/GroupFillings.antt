@@ -15,7 +15,7 @@ use Rattle.rules.specs.GroupRows.{as_row, last_word, as_group, is_limit, group_r
 use Rattle.rules.specs.declared.refusal.Refusal.{Refusal}
 use Rattle.rules.specs.declared.refusal.Refusal.TheVariants.{NoVariable, NoRoom, NotRising}
 use Rattle.rules.specs.GroupFilling.{Filling, raised, groups_of, all_words, writing, clean, faulted, extended, written, risen, fallen, pushed, no_place, ending, group_of, settled, answer_to}
-use Rattle.rules.proofs.RowLaws.{pass_push}
+use Rattle.rules.proofs.RowLaws.{pass_weaker, pass_push}
 use Rattle.rules.proofs.RowBuffers.{pushed_both}
 use Rattle.rules.proofs.DraftLaws.{reply_ok, whole_rule}
 
@@ -66,11 +66,7 @@ rising_push k last (x ∷ ls) l h r a e =
     and_from (ltb k (var x)) (rising (var x) (ls ++ (l ∷ []))) q.0 (rising_push (var x) last ls l (leb-true (var x) last p.0) q.1 p.1 e)
 
 all_below : (k k' : ℕ) (ls : List ℤ) → k ≤ k' → list_all (λ x. leb (var x) k) ls ≡ true → list_all (λ x. leb (var x) k') ls ≡ true
-all_below k k' [] h a = refl
-all_below k k' (x ∷ ls) h a =
-    let p = and_parts (leb (var x) k) (list_all (λ y. leb (var y) k) ls) a in
-    let b = leb-true (var x) k p.0 in
-    and_from (leb (var x) k') (list_all (λ y. leb (var y) k') ls) (le-leb (var x) k' (omega arith)) (all_below k k' ls h p.1)
+all_below k k' ls h = pass_weaker (λ x. leb (var x) k) (λ x. leb (var x) k') (λ x e. let b = leb-true (var x) k e in le-leb (var x) k' (omega arith)) ls
 
 abbrev Drafted : ℕ → ℕ → List ℤ → Type 0
 Drafted n last ls = (list_all (in_range n) ls ≡ true) × (rising 0 ls ≡ true) × (list_all (λ x. leb (var x) last) ls ≡ true)

@@ -6,6 +6,7 @@ use Rattle.std.specs.List.{list_all}
 use Rattle.std.proofs.lemmas.List.Elements.{All-nil, All-cons, All-head, All-tail, All-weaker, All-take, All-map, All-push, All-filter, filter_passes, filter-append}
 use Rattle.std.proofs.lemmas.List.{length-take-le, length_push, map_push}
 use Rattle.std.proofs.lemmas.Bool.{both_ways, cases_Bool, and_parts, and_from, and_right, or_parts, eqb-true, ne_eqb, leb-true, le-leb, ltb-true, ltb-false, le-ltb, not-true, not-false}
+use Rattle.std.proofs.lemmas.List.Sums.{AllPass-from_list_all}
 use Rattle.rules.specs.Literals.{var, in_range, has, Once}
 use Rattle.rules.specs.Clauses.{loose, by_loose, is_falsified, is_unit}
 use Rattle.rules.specs.Sources.{makes, satisfies, assignment, true_in, Full, Meaning, ToldClause, Lawful}
@@ -13,7 +14,7 @@ use Rattle.rules.specs.Books.{Group, true_ones, open_ones, keeps, over, over_cla
 use Rattle.rules.proofs.Literals.{var_cases, range_bounds, range_neg, all_has, has_all}
 use Rattle.rules.proofs.Statuses.{kept_in, in_kept, kept_cong}
 use Rattle.rules.proofs.Valuations.{full_neg, full_makes, makes_neg}
-use Rattle.rules.proofs.Lists.{all_passes, asserts, kept_none, none_loose, once_kept, once_take, once_push, once_neg, rising_once, length_within}
+use Rattle.rules.proofs.Lists.{asserts, kept_none, none_loose, once_kept, once_take, once_push, once_neg, rising_once, length_within}
 use Rattle.rules.specs.GroupRows.{last_word, is_limit, as_group, group_row_fits}
 use Rattle.rules.proofs.BookLaws.{Kind, Obeys, RuleLaws, book_lawful}
 
@@ -144,7 +145,7 @@ module _ (n : ℕ) (G : Group) (ranged : (x : ℤ) → has G.literals x ≡ true
 group_laws : (n : ℕ) (G : Group) → group_fits n G ≡ true → RuleLaws n groups G
 group_laws n G fits =
     let r = and_parts (list_all (in_range n) G.literals) (rising 0 G.literals) fits in
-    let ranged = all_has (λ l. in_range n l ≡ true) G.literals ((all_passes (in_range n) G.literals).0 r.0) in
+    let ranged = all_has (λ l. in_range n l ≡ true) G.literals (AllPass-from_list_all (in_range n) G.literals r.0) in
     let once = rising_once 0 G.literals r.1 in
     record { first_told = over_told n G ranged once; second_told = tight_told n G ranged once; quiet = group_quiet n G ranged; admitted = group_admitted n G ranged }
 

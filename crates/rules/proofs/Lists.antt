@@ -1,20 +1,14 @@
 -- Laws of lists: tests of all elements, filters, clauses whose literals are false, and literals of different variables.
-use Rattle.std.proofs.Common.{◌≡◌, ℕ, zero, suc, ◌<◌, ◌≤◌, Bool, true, false, not, ◌||◌, eqb, ltb, List, [], ◌∷◌, ◌++◌, map, length, take, ℤ, neg_ℤ, Decides, All, filter, sym, refl, ap, inl, inr, arith}
+use Rattle.std.proofs.Common.{◌≡◌, ℕ, zero, suc, ◌<◌, ◌≤◌, Bool, true, false, not, ◌||◌, eqb, ltb, List, [], ◌∷◌, ◌++◌, map, length, take, ℤ, neg_ℤ, All, filter, sym, refl, ap, inl, inr, arith}
 use mathlib.Core.Bool.{false≢true}
-use Rattle.std.specs.List.{list_all}
 use Rattle.std.proofs.lemmas.List.Elements.{All-nil, All-cons, All-head, All-tail, All-weaker, All-take, All-push, All-filter}
 use Rattle.std.proofs.lemmas.List.Filters.{length-filter_both}
 use Rattle.std.proofs.lemmas.Bool.{cond_both, cases_Bool, both_ways, and_parts, or_parts, or_from, eq-eqb, ne_eqb, ltb-true, not_from_true, not_from_false}
-use Rattle.std.proofs.lemmas.Bool.Decides.{Decides-by_and}
 use Rattle.rules.specs.Literals.{var, same, has, names, Once}
 use Rattle.rules.specs.Clauses.{loose, status, is_falsified, is_unit}
 use Rattle.rules.specs.Books.{rising}
 use Rattle.rules.proofs.Literals.{same_true, same_refl, var_neg, all_has, has_all}
 use Rattle.rules.proofs.Statuses.{in_kept}
-
--- a list passes a test when each of its elements does
-pub all_passes : {A : Type 0} (p : A → Bool) (xs : List A) → Decides (list_all p xs) (All (λ x. p x ≡ true) xs)
-all_passes p xs = Decides-by_and p (λ x. p x ≡ true) (list_all p) (λ x. ((λ e. e), (λ e. e))) refl (λ _ _. refl) xs
 
 pub kept_none : {A : Type 0} (p : A → Bool) (xs : List A) → All (λ x. p x ≡ false) xs → filter p xs ≡ []
 kept_none p [] h = refl

@@ -1,22 +1,9 @@
 -- Laws of pages: a valuation, with room behind it for a clause.
 use Rattle.std.proofs.Common.{◌≡◌, ℕ, zero, suc, ◌+◌, ◌-◌, ◌≤◌, min, ◌⊎◌, List, [], ◌∷◌, ◌++◌, length, take, drop, set, ℤ, sym, refl, ap, ◌∙◌, inl, inr, arith, take_all, length-take-le}
 use borrow.Rule.Slice.PartMut.{put_mid}
-use Rattle.std.proofs.lemmas.List.{append-nil, drop_all, length-drop, set-append_right, set_past}
+use Rattle.std.proofs.lemmas.List.{take_min, drop_min, append-nil, drop_all, length-drop, set-append_right, set_past}
 use Rattle.std.proofs.lemmas.Bool.{cases_lt}
 use Rattle.rules.specs.Sources.{Answer.tells, laid, page_after}
-
--- a front no longer than the list
-pub take_min : (n : ℕ) (ws : List ℤ) → take (min (length ws) n) ws ≡ take n ws
-take_min n ws = elim (cases_lt (length ws) n) [
-  | inl h ↦ let e : min (length ws) n ≡ length ws = omega arith in take_all (min (length ws) n) ws (omega arith) ∙ sym (take_all n ws (omega arith))
-  | inr h ↦ let e : min (length ws) n ≡ n = omega arith in ap (λ k. take k ws) e
-]
-
-pub drop_min : (n : ℕ) (ws : List ℤ) → drop (min (length ws) n) ws ≡ drop n ws
-drop_min n ws = elim (cases_lt (length ws) n) [
-  | inl h ↦ drop_all (min (length ws) n) ws (omega arith) ∙ sym (drop_all n ws (omega arith))
-  | inr h ↦ let e : min (length ws) n ≡ n = omega arith in ap (λ k. drop k ws) e
-]
 
 pub laid_length : (C room : List ℤ) → length (laid C room) ≡ length room
 laid_length [] room = refl
@@ -67,7 +54,7 @@ laid_front (suc k) (l ∷ C) (w ∷ room) a b (inl h) = ap (λ r. l ∷ r) (laid
 laid_front (suc k) (l ∷ C) (w ∷ room) a b (inr h) = ap (λ r. l ∷ r) (laid_front k C room (omega arith) (omega arith) (inr (omega arith)))
 
 -- what `k` literals written behind the valuation of n variables leave
-pub page_told : (n : ℕ) (page C : List ℤ) (start k : ℕ) → start ≡ min (length page) n → k ≡ min (length C) (length page - start)
+pub page_told : (n : ℕ) (page C : List ℤ) (start k : ℕ) → start ≡ min n (length page) → k ≡ min (length C) (length page - start)
     → put_mid start k page (take k C) ≡ page_after n (tells C) page
 page_told n page C start k es ek =
     let room = drop start page in

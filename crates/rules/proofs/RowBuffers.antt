@@ -2,23 +2,19 @@
 use Rattle.std.proofs.Common.{◌≡◌, ℕ, ◌+◌, ◌-◌, ◌<◌, ◌≤◌, true, List, [], ◌∷◌, ◌++◌, length, get_or, take, drop, set, replicate, ℤ, pos, sym, refl, ltb, Some, None, Option, ap, ◌∙◌, subst, arith, length-take-le, take-add}
 use borrow.Rule.Slice.PartMut.{put_mid}
 use Rattle.std.specs.List.{list_all}
-use Rattle.std.proofs.lemmas.List.Folds.{list_all-append}
-use Rattle.std.proofs.lemmas.Bool.{and_from, cond_both}
+use Rattle.std.proofs.lemmas.Bool.{cond_both}
 use Rattle.std.proofs.lemmas.List.{append_assoc, drop_at, length-drop, take-append-drop, take_more, take_more_set, drop-set-add, drop-drop, get_or-drop}
 use Rattle.rules.specs.Rows.{is_zero, rows, ended, words_of, spelled}
 use Rattle.rules.specs.RowBuffers.{Content, content, free, writing, noted, pushed, joined, all_words}
 use Rattle.rules.specs.declared.refusal.Refusal.{Refusal}
 use Rattle.rules.specs.declared.refusal.Refusal.TheVariants.{NoRoom}
 use Rattle.rules.specs.declared.row_buffer.RowBuffer.{RowBuffer}
-use Rattle.rules.proofs.RowLaws.{ended_row, ended_append, rows_row, rows_append, rows_words, rows_spelled, zeros_are, zeros_pass, zero_at, zeros_after}
+use Rattle.rules.proofs.RowLaws.{pass_append, ended_row, ended_append, rows_row, rows_append, rows_words, rows_spelled, zeros_are, zeros_pass, zero_at, zeros_after}
 
 -- ZEROS WRITTEN
 
 pub filled_zeros : (n : ℕ) (ws : List ℤ) → ws ≡ replicate n (pos 0) → list_all is_zero ws ≡ true
 filled_zeros n ws e = subst (λ k. list_all is_zero k ≡ true) (sym e) (zeros_pass n)
-
-pub zeros_append : (ws vs : List ℤ) → list_all is_zero ws ≡ true → list_all is_zero vs ≡ true → list_all is_zero (ws ++ vs) ≡ true
-zeros_append ws vs h k = list_all-append is_zero ws vs ∙ and_from (list_all is_zero ws) (list_all is_zero vs) h k
 
 -- zeros over a part, where zeros follow it
 pub zeros_over : (used len here k : ℕ) (ws zs : List ℤ) → used ≤ length ws → here ≡ used → k ≡ len → list_all is_zero zs ≡ true → list_all is_zero (drop (used + len) ws) ≡ true
@@ -27,7 +23,7 @@ zeros_over used len here k ws zs h eh ek z r =
     let rest = drop k (drop used ws) in
     let long : here ≡ length (take used ws) = omega (arith, length-take-le used ws h) in
     let after : rest ≡ drop (used + len) ws = drop-drop k used ws ∙ ap (λ j. drop (used + j) ws) ek in
-    ap (list_all is_zero) (drop_at (take used ws) (zs ++ rest) here (sym long)) ∙ zeros_append zs rest z (ap (list_all is_zero) after ∙ r)
+    ap (list_all is_zero) (drop_at (take used ws) (zs ++ rest) here (sym long)) ∙ pass_append is_zero zs rest z (ap (list_all is_zero) after ∙ r)
 
 -- ROWS
 

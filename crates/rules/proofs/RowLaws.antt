@@ -2,10 +2,11 @@
 use Rattle.std.proofs.Common.{◌≡◌, ℕ, zero, suc, ◌+◌, ◌-◌, ◌<◌, ◌≤◌, Bool, true, false, not, List, [], ◌∷◌, ◌++◌, length, get_or, take, drop, replicate, ℤ, pos, negsuc, sym, refl, ap, ◌∙◌, subst, inl, inr, arith, min}
 use Rattle.std.specs.List.{list_all, IsFirstMatchOrLen}
 use Rattle.std.proofs.lemmas.List.{drop-drop, take-append-le, drop_at}
-use Rattle.std.proofs.lemmas.Bool.{cases_Bool, both_ways, and_parts, and_from, eqb-true, ne_eqb, not-true, not_from_false, cond-true, cond-false}
-use Rattle.rules.specs.Literals.{var, in_range}
+use Rattle.std.proofs.lemmas.List.Elements.{All-drop, All-replicate, All-weaker}
+use Rattle.std.proofs.lemmas.List.Folds.{list_all-append}
+use Rattle.std.proofs.lemmas.List.Sums.{AllPass-from_list_all, list_all-from_AllPass}
+use Rattle.std.proofs.lemmas.Bool.{cases_Bool, both_ways, and_parts, and_from, eqb-true, not-true, cond-true, cond-false}
 use Rattle.rules.specs.Rows.{is_zero, in_front, rows, ended, words_of, spelled}
-use Rattle.rules.proofs.Literals.{range_bounds}
 
 -- ROWS
 
@@ -17,17 +18,14 @@ pub zero_word : (w : ℤ) → is_zero w ≡ true → w ≡ pos 0
 zero_word (pos k) h = ap pos (eqb-true k 0 h)
 zero_word (negsuc k) h = let e = eqb-true (suc k) 0 h in absurd (omega arith)
 
+pub pass_append : {A : Type 0} (p : A → Bool) (xs ys : List A) → list_all p xs ≡ true → list_all p ys ≡ true → list_all p (xs ++ ys) ≡ true
+pass_append p xs ys h k = list_all-append p xs ys ∙ and_from (list_all p xs) (list_all p ys) h k
+
+pub pass_weaker : {A : Type 0} (p q : A → Bool) → ((x : A) → p x ≡ true → q x ≡ true) → (xs : List A) → list_all p xs ≡ true → list_all q xs ≡ true
+pass_weaker p q follows xs h = list_all-from_AllPass q xs (All-weaker (λ x. p x ≡ true) (λ x. q x ≡ true) follows xs (AllPass-from_list_all p xs h))
+
 pub pass_push : {A : Type 0} (p : A → Bool) (xs : List A) (x : A) → list_all p xs ≡ true → p x ≡ true → list_all p (xs ++ (x ∷ [])) ≡ true
-pass_push p [] x h e = and_from (p x) true e refl
-pass_push p (y ∷ xs) x h e = let q = and_parts (p y) (list_all p xs) h in and_from (p y) (list_all p (xs ++ (x ∷ []))) q.0 (pass_push p xs x q.1 e)
-
--- literals in range are not 0
-ranged_word : (n : ℕ) (l : ℤ) → in_range n l ≡ true → not (is_zero l) ≡ true
-ranged_word n l h = let b = range_bounds n l h in not_from_false (is_zero l) (ne_eqb (var l) 0 (λ e. omega arith))
-
-pub ranged_words : (n : ℕ) (ls : List ℤ) → list_all (in_range n) ls ≡ true → none_zero ls ≡ true
-ranged_words n [] h = refl
-ranged_words n (l ∷ ls) h = let q = and_parts (in_range n l) (list_all (in_range n) ls) h in and_from (not (is_zero l)) (none_zero ls) (ranged_word n l q.0) (ranged_words n ls q.1)
+pass_push p xs x h e = pass_append p xs (x ∷ []) h (and_from (p x) true e refl)
 
 -- words that are not 0, and then a 0, are a row
 pub rows_row : (row : List ℤ) (w : ℤ) (ws : List ℤ) → none_zero row ≡ true → is_zero w ≡ true → rows (row ++ (w ∷ ws)) ≡ row ∷ rows ws
@@ -111,23 +109,18 @@ zeros_are [] h = refl
 zeros_are (w ∷ ws) h = let q = and_parts (is_zero w) (list_all is_zero ws) h in let a = zero_word w q.0 in let b = zeros_are ws q.1 in cc
 
 pub zeros_pass : (n : ℕ) → list_all is_zero (replicate n (pos 0)) ≡ true
-zeros_pass zero = refl
-zeros_pass (suc n) = zeros_pass n
+zeros_pass n = list_all-from_AllPass is_zero (replicate n (pos 0)) (All-replicate (λ w. is_zero w ≡ true) n (pos 0) refl)
 
 pub zero_at : (ws : List ℤ) (i : ℕ) → list_all is_zero ws ≡ true → is_zero (get_or ws i (pos 0)) ≡ true
 zero_at [] i h = refl
 zero_at (w ∷ ws) zero h = (and_parts (is_zero w) (list_all is_zero ws) h).0
 zero_at (w ∷ ws) (suc i) h = zero_at ws i (and_parts (is_zero w) (list_all is_zero ws) h).1
 
-zeros_drop : (i : ℕ) (ws : List ℤ) → list_all is_zero ws ≡ true → list_all is_zero (drop i ws) ≡ true
-zeros_drop zero ws h = h
-zeros_drop (suc i) [] h = h
-zeros_drop (suc i) (w ∷ ws) h = zeros_drop i ws (and_parts (is_zero w) (list_all is_zero ws) h).1
-
 pub zeros_after : (a b : ℕ) (ws : List ℤ) → a ≤ b → list_all is_zero (drop a ws) ≡ true → list_all is_zero (drop b ws) ≡ true
 zeros_after a b ws h z =
     let e : a + (b - a) ≡ b = omega arith in
-    subst (λ k. list_all is_zero (drop k ws) ≡ true) e (subst (λ k. list_all is_zero k ≡ true) (drop-drop (b - a) a ws) (zeros_drop (b - a) (drop a ws) z))
+    subst (λ k. list_all is_zero (drop k ws) ≡ true) e (subst (λ k. list_all is_zero k ≡ true) (drop-drop (b - a) a ws)
+    (list_all-from_AllPass is_zero (drop (b - a) (drop a ws)) (All-drop (λ w. is_zero w ≡ true) (b - a) (drop a ws) (AllPass-from_list_all is_zero (drop a ws) z))))
 
 -- READING ROWS
 

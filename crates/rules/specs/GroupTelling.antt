@@ -1,12 +1,12 @@
 -- What a sealed book of groups means.
-use Rattle.std.specs.Prelude.{◌≡◌, ℕ, Bool, true, false, cond, not, ◌&&◌, List, map, take, ℤ, neg_ℤ, Some, None, filter, Option}
-use Rattle.std.specs.Borrow.{Bor}
+use Rattle.std.specs.Prelude.{ℕ, Bool, true, false, cond, not, ◌&&◌, List, map, take, ℤ, neg_ℤ, Some, None, filter, Option}
 use Rattle.rules.specs.Sources.{Answer, Answer.silent, Answer.tells, Meaning}
 use Rattle.rules.specs.Books.{Group, over, over_clause, tight, tight_clause, group_book}
 use Rattle.rules.specs.Rows.{rows}
-use Rattle.rules.specs.GroupRows.{as_group, group_row_fits}
+use Rattle.rules.specs.GroupRows.{as_group}
 use Rattle.rules.specs.Values.{value_in}
 use Rattle.rules.specs.declared.groups.SealedGroups.{SealedGroups}
+use Rattle.rules.specs.declared.groups.GroupRow.{GroupRow}
 use Rattle.rules.specs.declared.literal.Value.{Value}
 use Rattle.rules.specs.declared.literal.Value.TheVariants.{True, False, Unassigned}
 use Rattle.rules.specs.declared.status.ClauseStatus.{ClauseStatus}
@@ -14,6 +14,10 @@ use Rattle.rules.specs.declared.status.ClauseStatus.TheVariants.{Falsified, Unit
 
 abbrev pub sealed_groups : SealedGroups → Meaning
 sealed_groups b = group_book b.variables (map as_group (rows b.words.now))
+
+-- the group of a row that is taken apart
+abbrev pub group_in : GroupRow → Group
+group_in row = record { most = row.limit; literals = row.literals.now }
 
 -- whether a literal is unassigned
 abbrev pub is_open : (ℤ → Bool) → ℤ → Bool
@@ -39,16 +43,11 @@ group_status f G = cond (over f G) Falsified (cond (tight f G) UnitOf Other)
 abbrev pub group_clause : (ℤ → Bool) → Group → List ℤ
 group_clause f G = cond (over f G) (over_clause f G) (tight_clause f G)
 
--- the group that was found, by its row, as an answer
-abbrev pub group_answer : (ℤ → Bool) → Option (Bor (List ℤ)) → Answer
+-- the group that was found, as an answer
+abbrev pub group_answer : (ℤ → Bool) → Option GroupRow → Answer
 group_answer f None = silent
-group_answer f (Some row) = tells (group_clause f (as_group row.now))
+group_answer f (Some row) = tells (group_clause f (group_in row))
 
 -- the first m of these literals that have the value
 abbrev pub first_of_value : (ℤ → Bool) → Value → ℕ → List ℤ → List ℤ
 first_of_value f v m ls = take m (filter (λ l. is_value v (value_in f l)) ls)
-
--- what is found is the row of a group as a book of n variables keeps it
-abbrev pub Fitting : ℕ → Option (Bor (List ℤ)) → Type 0
-Fitting n None = Unit {0}
-Fitting n (Some row) = group_row_fits n row.now ≡ true

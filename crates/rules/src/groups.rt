@@ -2,8 +2,9 @@
 mod filling;
 mod telling;
 
-ghost use Rattle.std.specs.Prelude.{◌≡◌, ◌≤◌, true, map};
+ghost use Rattle.std.specs.Prelude.{◌≡◌, ◌^◌, ◌<◌, ◌≤◌, true, map};
 ghost use Rattle.std.specs.List.{list_all};
+ghost use Rattle.rules.specs.Literals.{in_range};
 ghost use Rattle.rules.specs.Sources.{Lawful};
 ghost use Rattle.rules.specs.SourceLaws.{lawful_prop};
 ghost use Rattle.rules.specs.Books.{group_book};
@@ -36,4 +37,13 @@ pub struct SealedGroups<'a> {
     ghost fits: { list_all (group_row_fits variables) (rows words.now) ≡ true },
     ghost lawful: { Lawful (group_book variables (map as_group (rows words.now))) } by { lawful_prop (group_book variables (map as_group (rows words.now))) },
     ghost few: { variables ≤ 1000 },
+}
+
+/// A group of a sealed book, taken from its row: its literals, and how many of them may be true at most.
+#[derive(Clone, Copy)]
+struct GroupRow<'a> {
+    literals: &'a [i32],
+    limit: usize,
+    ghost small: { limit < 2 ^ 31 },
+    ghost ranged: { list_all (in_range 1000) literals.now ≡ true },
 }

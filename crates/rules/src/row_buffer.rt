@@ -11,6 +11,7 @@ use crate::refusal::Refusal;
 ///
 /// A row's own words are not 0, and a 0 ends it. The rows that stand take the first `used` words, the row that is being
 /// written the next `len`, and the rest are 0. `fault` is the refusal that the row that is being written has earned so far.
+// Words with lengths beside them, and no Vec: a book has the words that it was lent, and nothing is allocated.
 #[derive(Drop)]
 pub(crate) struct RowBuffer<'a> {
     words: &'a mut [i32],

@@ -31,7 +31,7 @@ pub trait Source {
 pub fn valuation(page: &[i32], variables: u32) -> &[i32]
     ensures { result.now ≡ take variables page.now }
 {
-    &page[0..page.len().min(variables as usize)]
+    &page[0..(variables as usize).min(page.len())]
 }
 
 /// Tells the clause: lays it on the page behind the valuation of so many variables, and answers how many literals it has.
@@ -39,7 +39,7 @@ pub fn tell(page: &mut [i32], variables: u32, clause: &[i32]) -> usize
     ensures count { result ≡ length clause.now }
     ensures page { page.new ≡ page_after variables (tells clause.now) page.old }
 {
-    let start = page.len().min(variables as usize);
+    let start = valuation(page, variables).len();
     let fits = clause.len().min(page.len() - start);
     page[start..start + fits].copy_from_slice(&clause[0..fits]);
     clause.len()

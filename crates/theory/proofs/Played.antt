@@ -8,7 +8,7 @@ use Rattle.rules.specs.Sources.{LawfulAt, Lawful}
 use Rattle.rules.specs.Books.{clause_fits, group_fits}
 use Rattle.rules.proofs.ClauseLaws.{clause_book_lawful}
 use Rattle.rules.proofs.GroupLaws.{group_book_lawful}
-use Rattle.rules.proofs.Lists.{all_passes}
+use Rattle.std.proofs.lemmas.List.Sums.{AllPass-from_list_all}
 use Rattle.theory.specs.Weighing.{Member, Fair, Plain, plain, plain_plus, total_weight}
 use Rattle.theory.specs.Trail.{valuation}
 use Rattle.theory.specs.Search.{Guide}
@@ -102,7 +102,7 @@ follows : (c : Case) → result c ≡ expected c → Follows c
 follows c e =
     let law = book_lawful c.variables c.book (ap (λ x. x.book_fits) e) in
     let at = subst (λ k. LawfulAt k (book_meaning c.variables c.book)) (book_count c.variables c.book) law in
-    let ranged : InRange c.variables c.assumptions = (all_passes (in_range c.variables) c.assumptions).0 (ap (λ x. x.assumptions_fit) e) in (
+    let ranged : InRange c.variables c.assumptions = AllPass-from_list_all (in_range c.variables) c.assumptions (ap (λ x. x.assumptions_fit) e) in (
       law,
       plays c.variables c.slots (guide_of c) at (plain_fair c.weigh) (begun c.assumptions) (begun_orderly c.variables c.slots c.assumptions ranged)
           c.legs c.named (ap (λ x. x.legs) e) (ap (λ x. x.named) e),

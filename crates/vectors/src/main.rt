@@ -23,6 +23,7 @@ const MOST_BYTES: usize = 262_144;
 const MOST_VARIABLES: u32 = 64;
 
 /// The number of this program's own fault, that a file has too many variables.
+// The one refusal of this program, so it needs no enum.
 const TOO_MANY_VARIABLES: u8 = 1;
 
 /// What stands behind each file.
@@ -67,6 +68,7 @@ fn fill(input: &mut impl Read, buffer: &mut [u8]) -> io::Result<usize>
 }
 
 /// Reads one file.
+// The two books by themselves, as the reader takes them.
 fn read_file(
     text: &[u8],
     clauses: &mut ClauseBook<'_>,

@@ -8,6 +8,7 @@ ghost use Rattle.rulefile.specs.Numbers.{value_from, natural, number_of};
 use crate::words::Misspelling;
 
 /// Whether all bytes are digits.
+// A function of its own: written where it is called, the proof of its caller needs an answer for each case.
 fn all_digits(bytes: &[u8]) -> bool
     ensures { result ≡ list_all is_ascii_digit bytes.now }
 {

@@ -1,7 +1,6 @@
-use Rattle.std.proofs.Common.{◌≡◌, sym, ap, ◌∙◌, subst, rules}
+use Rattle.std.proofs.Common.{◌≡◌, sym, subst, rules}
 use Rattle.rules.specs.RowBuffers.{content, pushed}
-use Rattle.rules.specs.ClauseFilling.{clauses_of}
-use Rattle.rules.proofs.ClauseFillings.{Kept, kept_pushed, clause_pushed}
+use Rattle.rules.proofs.ClauseFillings.{Kept, kept_pushed}
 use Rattle.rules.proofs.clauses.filling.ClauseBookBook.push.Goals as goal
 
 pub invariant_of-self-then-not-has : goal.invariant_of-self-then-not-has
@@ -10,9 +9,3 @@ invariant_of-self-then-not-has c =
     let e : content c.push.new.self ≡ pushed (content b.buffer) c.args.literal = search rules in
     let kept = subst (Kept b.count) (sym e) (kept_pushed b.count (content b.buffer) c.args.literal (b.fit, b.drafted, b.counted) (search rules) (search rules)) in
     record { fit = kept.0; drafted = kept.1; counted = kept.2 }
-
-pub returns-then-not-has : goal.returns-then-not-has
-returns-then-not-has c =
-    let b = content c.args.self.now.buffer in
-    let e : content c.push.new.self ≡ pushed b c.args.literal = search rules in
-    ap clauses_of e ∙ clause_pushed b c.args.literal (search rules) (search rules)
