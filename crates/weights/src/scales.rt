@@ -5,7 +5,7 @@ ghost use Rattle.std.proofs.Common.{rules};
 use crate::order::{Order, Scale};
 
 /// A 32-bit whole number; adding stops at 2^32 − 1.
-#[derive(Clone, Copy, PartialEq, Eq, Debug)]
+#[derive(Clone, Copy, PartialEq, Eq, PartialOrd, Ord, Debug)]
 pub struct Plain(pub u32);
 
 impl Order for Plain {
@@ -16,7 +16,7 @@ impl Order for Plain {
     ghost chain = { Prim.search rules };
 
     fn at_most(&self, other: &Plain) -> bool {
-        self.0 <= other.0
+        self <= other
     }
 }
 
@@ -35,7 +35,7 @@ impl Scale for Plain {
 }
 
 /// A pair of plain numbers, added by part and ordered by the first, then the second.
-#[derive(Clone, Copy, PartialEq, Eq, Debug)]
+#[derive(Clone, Copy, PartialEq, Eq, PartialOrd, Ord, Debug)]
 pub struct Ranked {
     pub first: Plain,
     pub second: Plain,
@@ -49,7 +49,7 @@ impl Order for Ranked {
     ghost chain = { Prim.search rules };
 
     fn at_most(&self, other: &Ranked) -> bool {
-        (self.first.0, self.second.0) <= (other.first.0, other.second.0)
+        self <= other
     }
 }
 

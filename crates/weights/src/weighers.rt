@@ -27,11 +27,7 @@ impl<W: Scale> Table<'_, W> {
     fn weight_at(&self, entry: usize) -> W
         ensures { result ≡ slice_index_or self.now.weights.now entry W.Scale.zero }
     {
-        // A match, here and below: the checker does not cover `map_or_else` with the scale's `zero`.
-        match self.weights.get(entry) {
-            Some(weight) => *weight,
-            None => W::zero(),
-        }
+        self.weights.get(entry).copied().unwrap_or(W::zero())
     }
 }
 
@@ -41,6 +37,7 @@ impl<W: Scale> Weigher for Table<'_, W> {
     ghost weight = { λ table member. table_weight W.Scale.zero table.weights.now member.literal };
 
     fn weigh(&self, member: Member) -> W {
+        // A match: of `map_or` with a closure over the table the proof was tried and didn't close.
         match entry_of(member.literal) {
             Some(entry) => self.weight_at(entry),
             None => W::zero(),
