@@ -15,8 +15,8 @@ use Rattle.theory.specs.Calls.{Call.assume, Call.value, Call.named, Reply.done, 
 use Rattle.memory.specs.Words.{word_at}
 use Rattle.memory.specs.Decode.{assumptions_of, trail_of, marked}
 use Rattle.memory.specs.Reports.{verdict_of}
-use Rattle.memory.specs.Searches.{with_failed, failed_is, names_by}
-use Rattle.memory.specs.Sessions.{found, settled_state, Promised, assume_answer, is_model, is_refuted, value_answer, named_answer}
+use Rattle.memory.specs.Searches.{with_failed, failed_is, names_by, search_in}
+use Rattle.memory.specs.Sessions.{settled_state, Promised, assume_answer, is_model, is_refuted, value_answer, named_answer}
 use Rattle.memory.specs.declared.report.Verdict.{Verdict}
 use Rattle.memory.specs.declared.report.Verdict.TheVariants.{Open, Paused, Model, Refuted}
 use Rattle.memory.specs.declared.report.Refusal.TheVariants.{NoVariable, Full, NoModel, NotRefuted}
@@ -57,9 +57,6 @@ module _ (n L : ℕ) (ls : List ℤ) (l : ℤ) where
   pub joined_promised : in_range n l ≡ true → length ls < 2 * n → (ls' : List ℤ) → ls' ≡ ls ++ (l ∷ []) → Promised n L (idle ls) (assume l) done (idle ls')
   joined_promised r f ls' e = subst (λ x. Promised n L (idle ls) (assume l) done (idle x)) (sym e) (promised n L (idle ls) (assume l) done (idle (ls ++ (l ∷ []))) tt (assumes l r f))
 
-  pub outside_answer : (k : ℕ) → in_range n l ≡ false → Err NoVariable ≡ assume_answer n k l
-  outside_answer k r = rw r
-
   pub full_answer : (k : ℕ) → in_range n l ≡ true → 2 * n ≤ k → Err Full ≡ assume_answer n k l
   full_answer k r f = rw (r, le-ltb k (2 * n) f)
 
@@ -90,20 +87,20 @@ not_refuted Model h = (refl, λ e. let z : ◌≡◌ {A = ℕ} 0 1 = cc in omega
 not_refuted Refuted h = absurd (h refl)
 
 module _ (s : Settled) (v : ℕ) where
-  pub no_model_promised : (s.verdict ≡ Model → ⊥) → (Err NoModel ≡ value_answer s v) × Promised s.memory.layout.variables s.memory.layout.slots (settled_state s) (value v) (refused 6) (settled_state s)
-  no_model_promised h = let e = no_model s.verdict h in (rw e.0, promised s.memory.layout.variables s.memory.layout.slots (settled_state s) (value v) (refused 6) (settled_state s) tt (values_without v e.1))
+  pub no_model_promised : (s.progress.verdict ≡ Model → ⊥) → (Err NoModel ≡ value_answer s v) × Promised s.progress.memory.layout.variables s.progress.memory.layout.slots (settled_state s) (value v) (refused 6) (settled_state s)
+  no_model_promised h = let e = no_model s.progress.verdict h in (rw e.0, promised s.progress.memory.layout.variables s.progress.memory.layout.slots (settled_state s) (value v) (refused 6) (settled_state s) tt (values_without v e.1))
 
-  pub no_value_promised : s.verdict ≡ Model → in_range s.memory.layout.variables (pos v) ≡ false
-      → (Err NoVariable ≡ value_answer s v) × Promised s.memory.layout.variables s.memory.layout.slots (settled_state s) (value v) (refused 2) (settled_state s)
-  no_value_promised e r = (rw (e, r), promised s.memory.layout.variables s.memory.layout.slots (settled_state s) (value v) (refused 2) (settled_state s) tt (values_outside v (ap verdict_of e) r))
+  pub no_value_promised : s.progress.verdict ≡ Model → in_range s.progress.memory.layout.variables (pos v) ≡ false
+      → (Err NoVariable ≡ value_answer s v) × Promised s.progress.memory.layout.variables s.progress.memory.layout.slots (settled_state s) (value v) (refused 2) (settled_state s)
+  no_value_promised e r = (rw (e, r), promised s.progress.memory.layout.variables s.progress.memory.layout.slots (settled_state s) (value v) (refused 2) (settled_state s) tt (values_outside v (ap verdict_of e) r))
 
-  pub value_promised : s.verdict ≡ Model → in_range s.memory.layout.variables (pos v) ≡ true → (b : Bool) → b ≡ on (found s).position.trail (pos v)
-      → (Ok b ≡ value_answer s v) × Promised s.memory.layout.variables s.memory.layout.slots (settled_state s) (value v) (said b) (settled_state s)
+  pub value_promised : s.progress.verdict ≡ Model → in_range s.progress.memory.layout.variables (pos v) ≡ true → (b : Bool) → b ≡ on (search_in s.progress).position.trail (pos v)
+      → (Ok b ≡ value_answer s v) × Promised s.progress.memory.layout.variables s.progress.memory.layout.slots (settled_state s) (value v) (said b) (settled_state s)
   value_promised e r b h =
-      let m = h ∙ sym (value_makes s.memory.layout.variables (found s).position.trail v r) in (
+      let m = h ∙ sym (value_makes s.progress.memory.layout.variables (search_in s.progress).position.trail v r) in (
         rw (e, r) (ap Ok m),
-        subst (λ x. Promised s.memory.layout.variables s.memory.layout.slots (settled_state s) (value v) (said x) (settled_state s)) (sym m)
-            (promised s.memory.layout.variables s.memory.layout.slots (settled_state s) (value v) (said (makes (assignment s.memory.layout.variables (on (found s).position.trail)) (pos v))) (settled_state s) tt (values v (ap verdict_of e) r)),
+        subst (λ x. Promised s.progress.memory.layout.variables s.progress.memory.layout.slots (settled_state s) (value v) (said x) (settled_state s)) (sym m)
+            (promised s.progress.memory.layout.variables s.progress.memory.layout.slots (settled_state s) (value v) (said (makes (assignment s.progress.memory.layout.variables (on (search_in s.progress).position.trail)) (pos v))) (settled_state s) tt (values v (ap verdict_of e) r)),
       )
 
 -- NAMES
@@ -114,24 +111,24 @@ has_failed ws (Some i) ls l = refl
 
 -- the marked assumed literals
 abbrev pub marked_roots : Settled → List ℤ
-marked_roots s = filter (marked s.memory.layout.variables s.memory.words.now) (assumed_literals (trail_of s.memory.layout.variables s.memory.extent.trail s.memory.words.now))
+marked_roots s = filter (marked s.progress.memory.layout.variables s.progress.memory.words.now) (assumed_literals (trail_of s.progress.memory.layout.variables s.progress.memory.extent.trail s.progress.memory.words.now))
 
 module _ (s : Settled) (l : ℤ) where
-  pub named_has : s.verdict ≡ Refuted → has (found s).named l ≡ (failed_is s.memory.words.now s.failed l || has (marked_roots s) l)
-  named_has e = ap (λ v. has (names_by v (with_failed s.memory.words.now s.failed (marked_roots s))) l) e ∙ has_failed s.memory.words.now s.failed (marked_roots s) l
+  pub named_has : s.progress.verdict ≡ Refuted → has (search_in s.progress).named l ≡ (failed_is s.progress.memory.words.now s.progress.failed l || has (marked_roots s) l)
+  named_has e = ap (λ v. has (names_by v (with_failed s.progress.memory.words.now s.progress.failed (marked_roots s))) l) e ∙ has_failed s.progress.memory.words.now s.progress.failed (marked_roots s) l
 
-  pub not_refuted_promised : (s.verdict ≡ Refuted → ⊥) → (Err NotRefuted ≡ named_answer s l) × Promised s.memory.layout.variables s.memory.layout.slots (settled_state s) (named l) (refused 7) (settled_state s)
-  not_refuted_promised h = let e = not_refuted s.verdict h in (rw e.0, promised s.memory.layout.variables s.memory.layout.slots (settled_state s) (named l) (refused 7) (settled_state s) tt (names_without l e.1))
+  pub not_refuted_promised : (s.progress.verdict ≡ Refuted → ⊥) → (Err NotRefuted ≡ named_answer s l) × Promised s.progress.memory.layout.variables s.progress.memory.layout.slots (settled_state s) (named l) (refused 7) (settled_state s)
+  not_refuted_promised h = let e = not_refuted s.progress.verdict h in (rw e.0, promised s.progress.memory.layout.variables s.progress.memory.layout.slots (settled_state s) (named l) (refused 7) (settled_state s) tt (names_without l e.1))
 
-  pub no_name_promised : s.verdict ≡ Refuted → in_range s.memory.layout.variables l ≡ false
-      → (Err NoVariable ≡ named_answer s l) × Promised s.memory.layout.variables s.memory.layout.slots (settled_state s) (named l) (refused 2) (settled_state s)
-  no_name_promised e r = (rw (e, r), promised s.memory.layout.variables s.memory.layout.slots (settled_state s) (named l) (refused 2) (settled_state s) tt (names_outside l (ap verdict_of e) r))
+  pub no_name_promised : s.progress.verdict ≡ Refuted → in_range s.progress.memory.layout.variables l ≡ false
+      → (Err NoVariable ≡ named_answer s l) × Promised s.progress.memory.layout.variables s.progress.memory.layout.slots (settled_state s) (named l) (refused 2) (settled_state s)
+  no_name_promised e r = (rw (e, r), promised s.progress.memory.layout.variables s.progress.memory.layout.slots (settled_state s) (named l) (refused 2) (settled_state s) tt (names_outside l (ap verdict_of e) r))
 
-  pub name_promised : s.verdict ≡ Refuted → in_range s.memory.layout.variables l ≡ true → (b : Bool) → b ≡ has (found s).named l
-      → (Ok b ≡ named_answer s l) × Promised s.memory.layout.variables s.memory.layout.slots (settled_state s) (named l) (said b) (settled_state s)
+  pub name_promised : s.progress.verdict ≡ Refuted → in_range s.progress.memory.layout.variables l ≡ true → (b : Bool) → b ≡ has (search_in s.progress).named l
+      → (Ok b ≡ named_answer s l) × Promised s.progress.memory.layout.variables s.progress.memory.layout.slots (settled_state s) (named l) (said b) (settled_state s)
   name_promised e r b h = (
-    ap Ok h ∙ sym (cond-true (in_range s.memory.layout.variables l) (Ok (has (found s).named l)) (Err NoVariable) r)
-        ∙ sym (cond-true (is_refuted s.verdict) (cond (in_range s.memory.layout.variables l) (Ok (has (found s).named l)) (Err NoVariable)) (Err NotRefuted) (ap is_refuted e)),
-    subst (λ x. Promised s.memory.layout.variables s.memory.layout.slots (settled_state s) (named l) (said x) (settled_state s)) (sym h)
-        (promised s.memory.layout.variables s.memory.layout.slots (settled_state s) (named l) (said (has (found s).named l)) (settled_state s) tt (names l (ap verdict_of e) r)),
+    ap Ok h ∙ sym (cond-true (in_range s.progress.memory.layout.variables l) (Ok (has (search_in s.progress).named l)) (Err NoVariable) r)
+        ∙ sym (cond-true (is_refuted s.progress.verdict) (cond (in_range s.progress.memory.layout.variables l) (Ok (has (search_in s.progress).named l)) (Err NoVariable)) (Err NotRefuted) (ap is_refuted e)),
+    subst (λ x. Promised s.progress.memory.layout.variables s.progress.memory.layout.slots (settled_state s) (named l) (said x) (settled_state s)) (sym h)
+        (promised s.progress.memory.layout.variables s.progress.memory.layout.slots (settled_state s) (named l) (said (has (search_in s.progress).named l)) (settled_state s) tt (names l (ap verdict_of e) r)),
   )

@@ -6,15 +6,20 @@ use Rattle.rules.specs.Clauses.{Status.falsified, status}
 use Rattle.weights.specs.Choosing.{by_weight, offered}
 use Rattle.weights.specs.Weighing.{total_weight}
 use Rattle.weights.specs.declared.chooser.Candidate.{Candidate}
-use Rattle.theory.specs.Weighing.{Member, Decided, Total, Chain, Fair}
+use Rattle.theory.specs.Look.{Position}
+use Rattle.theory.specs.Weighing.{Member, Total, Chain, Fair}
 use Rattle.theory.specs.Trail.{Entry, Entry.assumed, Entry.decided, Entry.implied, Trail, literal, on, decided_literals}
-use Rattle.theory.specs.Chunks.{standing, in_chunk, touches, chunk}
+use Rattle.theory.specs.Chunks.{in_chunk, touches, chunk}
 use Rattle.theory.proofs.Choice.{lighter, choice, Chooses, choice_chooses}
 use Rattle.memory.specs.Words.{word_at, clause_at, index_of, trail_at, row_at, Outside}
 use Rattle.memory.specs.Decode.{entry_of, entry_at, trail_of, slot_of, slots_of, Marked, Coherent, clause_of}
 use Rattle.memory.proofs.Words.{words_same}
 use Rattle.memory.proofs.Decode.{literal_of, entry_same, outside_trail}
-use Rattle.memory.specs.Candidates.{by_total, position_with, is_touched, decision_at}
+use Rattle.memory.specs.Candidates.{by_total, is_touched, decision_at}
+
+-- the position that the words stand for, under these assumptions
+abbrev position_with : List ℤ → ℕ → ℕ → ℕ → List ℤ → Position
+position_with assumptions n len filled ws = record { assumptions = assumptions; trail = trail_of n len ws; slots = slots_of n filled ws }
 
 -- the touched decisions of a part of the trail
 abbrev pub decisions_in : Trail → List ℤ → Trail → List ℤ

@@ -1,19 +1,18 @@
 -- Sets of false literals by their variables, and how many of them are marked.
-use Rattle.std.proofs.Common.{◌≡◌, ℕ, ◌+◌, Bool, true, false, not, ◌&&◌, ◌||◌, eqb, ◌≢◌, List, [], ◌∷◌, ℤ, neg_ℤ, sym, refl, ap, ◌∙◌, subst, inl, inr, arith}
+use Rattle.std.proofs.Common.{◌≡◌, ℕ, ◌+◌, Bool, true, false, not, ◌&&◌, ◌||◌, eqb, ◌≢◌, List, [], ◌∷◌, ℤ, neg_ℤ, sym, refl, ap, ◌∙◌, subst, inl, inr, arith, ◌++◌}
 use Rattle.std.proofs.lemmas.List.Elements.{All-head, All-tail}
 use mathlib.Core.Path.{fun_ext}
 use mathlib.Core.Bool.{false≢true}
 use lib.IntN.{neg_ℤ-neg_ℤ}
-use Rattle.std.proofs.lemmas.List.FromFn.{map-range_with_len_more}
 use Rattle.std.proofs.lemmas.Bool.{eq-eqb, ne_eqb, or_cases, both_ways, cases_Bool}
-use Rattle.std.proofs.Math.Bool.{or_assoc, or-false}
+use Rattle.std.proofs.Math.Bool.{and-false, or_assoc, or-false}
 use Rattle.rules.specs.Literals.{same, has}
 use Rattle.rules.proofs.Literals.{same_true, eq_same, all_has, any_push}
 use Rattle.theory.specs.Trail.{Entry, Trail, literal, on, WellFormed}
 use Rattle.theory.specs.Conflict.{resolved}
 use Rattle.theory.proofs.Trails.{AllFalse, ranged, fresh, fresh_negation, on_top, on_below, on_range, not_both}
 use Rattle.theory.proofs.Analysis.{hits}
-use Rattle.memory.specs.Words.{word_at, words_from, index_of}
+use Rattle.memory.specs.Words.{index_of}
 use Rattle.memory.specs.Analysis.{set_of, names_index, one, both_count}
 use Rattle.memory.proofs.Words.{index_range, index_neg}
 use Rattle.memory.proofs.Decode.{index_same, index_apart}
@@ -92,14 +91,11 @@ module _ (n : ℕ) (T : Trail) (w : WellFormed n T) where
   ])
 
 -- one more word of a list
-pub names_more : (B C D : ℕ → Bool) (ws : List ℤ) (base i y : ℕ) → y ≡ index_of (word_at ws (base + i)) → ((x : ℕ) → C x ≡ (B x || names_index (words_from ws base i) x))
-    → ((x : ℕ) → D x ≡ (C x || eqb x y)) → (x : ℕ) → D x ≡ (B x || names_index (words_from ws base (i + 1)) x)
-names_more B C D ws base i y e c d x =
-    d x ∙ ap (λ b. b || eqb x y) (c x) ∙ or_assoc (B x) (names_index (words_from ws base i) x) (eqb x y) ∙ ap (λ b. B x || b) (sym more)
-  where
-    more : names_index (words_from ws base (i + 1)) x ≡ (names_index (words_from ws base i) x || eqb x y)
-    more = ap (λ C. names_index C x) (map-range_with_len_more (word_at ws) base i (base + i) refl) ∙ any_push (λ m. eqb x (index_of m)) (words_from ws base i) (word_at ws (base + i))
-        ∙ ap (λ z. names_index (words_from ws base i) x || eqb x z) (sym e)
+pub names_push : (B C D : ℕ → Bool) (xs : List ℤ) (l : ℤ) (y : ℕ) → y ≡ index_of l → ((x : ℕ) → C x ≡ (B x || names_index xs x)) → ((x : ℕ) → D x ≡ (C x || eqb x y))
+    → (x : ℕ) → D x ≡ (B x || names_index (xs ++ (l ∷ [])) x)
+names_push B C D xs l y e c d x =
+    d x ∙ ap (λ b. b || eqb x y) (c x) ∙ or_assoc (B x) (names_index xs x) (eqb x y)
+    ∙ ap (λ z. B x || (names_index xs x || eqb x z)) e ∙ ap (λ b. B x || b) (sym (any_push (λ m. eqb x (index_of m)) xs l))
 
 pub both_more : (K B C D : ℕ → Bool) (n : ℕ) (t : Trail) → WellFormed n t → (l : ℤ) → on t (neg_ℤ l) ≡ true → (y new r : ℕ) → y ≡ index_of l
     → ((x : ℕ) → D x ≡ (C x || eqb x y)) → r ≡ one (not (C y) && K y) → new + both_count K B t ≡ both_count K C t → new + r + both_count K B t ≡ both_count K D t
@@ -112,8 +108,4 @@ both_more K B C D n t w l o y new r e d f g =
 
 pub both_none : (K B : ℕ → Bool) (t : Trail) → ((x : ℕ) → B x ≡ false) → both_count K B t ≡ 0
 both_none K B [] b = refl
-both_none K B (e ∷ t) b = rw (b (index_of (literal e)), and_false (K (index_of (literal e))), both_none K B t b)
-  where
-    and_false : (k : Bool) → (k && false) ≡ false
-    and_false true = refl
-    and_false false = refl
+both_none K B (e ∷ t) b = rw (b (index_of (literal e)), and-false (K (index_of (literal e))), both_none K B t b)

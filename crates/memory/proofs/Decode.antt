@@ -1,9 +1,9 @@
 -- What is decoded: at a place of the trail, of a variable, and of words that are the same.
-use Rattle.std.proofs.Common.{◌≡◌, ℕ, zero, suc, ◌+◌, ◌*◌, ◌<◌, ◌≤◌, true, false, cond, eqb, ◌≢◌, ◌⊎◌, List, ◌∷◌, length, ℤ, neg_ℤ, nat_abs, sym, refl, ap, ◌∙◌, subst, inl, inr, add_assoc, arith}
+use Rattle.std.proofs.Common.{◌≡◌, ℕ, zero, suc, ◌+◌, ◌*◌, ◌<◌, ◌≤◌, true, false, cond, eqb, ◌≢◌, ◌⊎◌, List, ◌∷◌, length, ℤ, neg_ℤ, nat_abs, All, sym, refl, ap, ◌∙◌, subst, inl, inr, add_assoc, arith}
 use mathlib.Core.Bool.{false≢true}
 use Rattle.std.proofs.lemmas.Bool.{cond_both, cases_eq, or_cases, or_right, both_ways}
 use Rattle.rules.specs.Literals.{var, same, in_range}
-use Rattle.rules.proofs.Literals.{same_true, same_refl, var_cases, range_neg, has_all}
+use Rattle.rules.proofs.Literals.{same_true, same_refl, var_cases, range_neg, has_all, all_has}
 use Rattle.rules.specs.Clauses.{Status.falsified, status}
 use Rattle.rules.proofs.Statuses.{falsified_all}
 use Rattle.theory.specs.Trail.{Entry, Entry.assumed, Entry.decided, Entry.implied, Trail, literal, on, Grounded, Placeable, WellFormed, word}
@@ -14,12 +14,12 @@ use Rattle.memory.specs.Decode.{as_entry, reason_count, reason_of, entry_of, ent
 use Rattle.memory.proofs.Words.{index_var, index_range, words_same, all_words}
 
 -- the literal of an entry
+pub entry_literal : (s l : ℤ) (others : List ℤ) → literal (as_entry s l others) ≡ l
+entry_literal s l others = cond_both (eqb (nat_abs s) 3) (implied l others) (cond (eqb (nat_abs s) 1) (assumed l) (decided l)) (λ e. literal e ≡ l) (λ _. refl)
+    (λ _. cond_both (eqb (nat_abs s) 1) (assumed l) (decided l) (λ e. literal e ≡ l) (λ _. refl) (λ _. refl))
+
 pub literal_of : (n : ℕ) (ws : List ℤ) (l : ℤ) → literal (entry_of n ws l) ≡ l
-literal_of n ws l = by (word_at ws (row_at n (index_of l) 0)) (reason_of n ws (index_of l))
-  where
-    by : (s : ℤ) (others : List ℤ) → literal (as_entry s l others) ≡ l
-    by s others = cond_both (eqb (nat_abs s) 3) (implied l others) (cond (eqb (nat_abs s) 1) (assumed l) (decided l)) (λ e. literal e ≡ l) (λ _. refl)
-        (λ _. cond_both (eqb (nat_abs s) 1) (assumed l) (decided l) (λ e. literal e ≡ l) (λ _. refl) (λ _. refl))
+literal_of n ws l = entry_literal (word_at ws (row_at n (index_of l) 0)) l (reason_of n ws (index_of l))
 
 pub length_trail : (n k : ℕ) (ws : List ℤ) → length (trail_of n k ws) ≡ k
 length_trail n zero ws = refl
@@ -115,6 +115,9 @@ all_false t C f = has_all (λ x. on t (neg_ℤ x) ≡ true) C (falsified_all (on
 
 pub false_ranged : (n : ℕ) (t : Trail) → WellFormed n t → (ws : List ℤ) (base k : ℕ) → AllFalse t (words_from ws base k) → (i : ℕ) → i < k → in_range n (word_at ws (base + i)) ≡ true
 false_ranged n t w ws base k f i h = sym (range_neg n (word_at ws (base + i))) ∙ on_range n t w (neg_ℤ (word_at ws (base + i))) (all_words (λ m. on t (neg_ℤ m) ≡ true) ws base k f i h)
+
+pub false_range : (n : ℕ) (t : Trail) → WellFormed n t → (C : List ℤ) → AllFalse t C → All (λ l. in_range n l ≡ true) C
+false_range n t w C f = has_all (λ l. in_range n l ≡ true) C (λ x h. sym (range_neg n x) ∙ on_range n t w (neg_ℤ x) (all_has (λ m. on t (neg_ℤ m) ≡ true) C f x h))
 
 -- a well-formed trail leaves room for what may still be placed
 pub room_for : (n len : ℕ) (ws : List ℤ) (e : Entry) → WellFormed n (trail_of n len ws) → Placeable n (trail_of n len ws) e → len < n

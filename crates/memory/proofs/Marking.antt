@@ -1,6 +1,5 @@
 -- The marks tell the chunk of a literal, from the oldest place of the trail on.
-use Rattle.std.proofs.Common.{◌≡◌, ℕ, suc, ◌+◌, ◌*◌, ◌<◌, Bool, true, false, eqb, ◌≢◌, List, [], ℤ, pos, neg_ℤ, nat_abs, sym, refl, ap, ◌∙◌, subst, inl, inr, add-one, arith}
-use mathlib.Core.Bool.{false≢true}
+use Rattle.std.proofs.Common.{◌≡◌, ℕ, suc, ◌+◌, ◌*◌, ◌<◌, Bool, true, false, eqb, ◌≢◌, List, ℤ, neg_ℤ, nat_abs, sym, refl, ap, ◌∙◌, subst, inl, inr, add-one, arith}
 use Rattle.std.proofs.lemmas.Bool.{cond_both, or_parts, both_ways}
 use Rattle.rules.specs.Literals.{same}
 use Rattle.rules.proofs.Literals.{same_true, eq_same, all_has, has_all}
@@ -28,9 +27,6 @@ pub joins_cong : (d : ℤ) (t : Trail) (f g : ℤ → Bool) → ((l : ℤ) → o
 joins_cong d t f g h (assumed l) w = refl
 joins_cong d t f g h (decided l) w = refl
 joins_cong d t f g h (implied l others) w = meets_false t f g h others w
-
-pub marked_none : (n : ℕ) (test : ℤ → Bool) (ws : List ℤ) → ((x : ℕ) → x < n → word_at ws (mark_at n x) ≡ pos 0) → Marked n [] test ws
-marked_none n test ws h = record { on_trail = λ l e. absurd (false≢true e); off_trail = λ l g _ _. h (index_of l) (index_range n l g).1 }
 
 module _ (n L len : ℕ) (d : ℤ) (was ws now : List ℤ) (st : Coherent n L len was) (o : Outside (5 * n) n was ws) (p : ℕ) (h : p < len) (r : Bool)
     (old : Marked n (trail_of n p was) (in_chunk d (trail_of n p was)) ws) where

@@ -15,8 +15,8 @@ use Rattle.memory.specs.Words.{word_at, Outside}
 use Rattle.memory.specs.Candidates.{is_touched}
 use Rattle.memory.specs.Decode.{literal_at, entry_at, Marked, trail_of, assumptions_of, clause_of, slots_of, position_of, Sound}
 use Rattle.memory.specs.Deciding.{Decides, Decides.preferred, Decides.lowest, Decides.complete}
-use Rattle.memory.specs.Standing.{trail_at, position_at, Standing}
-use Rattle.memory.specs.Memories.{trail_in, position_in, clause_in, FalsifiedInHand, Keeps, Framed}
+use Rattle.memory.specs.InUse.{trail_at, position_at, SoundAt}
+use Rattle.memory.specs.Memories.{trail_in, position_in, clause_in, FalsifiedInHand, Framed}
 use Rattle.memory.specs.declared.layout.Layout.{Layout}
 use Rattle.memory.specs.declared.layout.Extent.{Extent}
 use Rattle.memory.specs.declared.memory.Memory.{Memory}
@@ -24,6 +24,7 @@ use Rattle.memory.specs.Plans.{ConflictInHand, Placed, Undone}
 use Rattle.memory.proofs.Words.{outside_both, outside_wider}
 use Rattle.memory.proofs.Decode.{outside_trail, outside_coherent}
 use Rattle.memory.proofs.Storing.{sound_kept, position_kept}
+use Rattle.memory.proofs.Analysing.{same_clause as clause_same}
 use Rattle.memory.proofs.Choosing.{literal_kept, hand_kept, marked_kept, falsified_kept, touched_kept}
 
 -- a change among the clause in hand and the marks leaves the position
@@ -40,7 +41,7 @@ module _ (n L a len f base count : ℕ) (was now : List ℤ) (low : 4 * n ≤ ba
 
 -- the same of a memory's words
 module _ (m : Memory) (base count : ℕ) (now : List ℤ) (low : 4 * m.layout.variables ≤ base) (high : base + count ≤ 6 * m.layout.variables) (o : Outside base count m.words.now now) where
-  pub frame_sound : length now ≡ length m.words.now → Standing m.layout m.extent now
+  pub frame_sound : length now ≡ length m.words.now → SoundAt m.layout m.extent now
   frame_sound = margin_sound m.layout.variables m.layout.slots m.extent.assumptions m.extent.trail m.extent.slots base count m.words.now now low high m.sound o
 
   pub frame_position : position_at m.layout m.extent now ≡ position_in m
@@ -66,7 +67,10 @@ pub framed_next : (b c : ℕ → ℕ) (was mid now : Memory) → Framed (b was.l
     → Framed (b was.layout.variables) (c was.layout.variables) was now
 framed_next b c was mid now f h = framed_both (b was.layout.variables) (c was.layout.variables) was mid now f (subst (λ y. Framed (b y.variables) (c y.variables) mid now) f.layout h)
 
--- marks changed: the clause in hand is as falsified as it was
+-- marks changed: the clause in hand is the same, and as falsified as it was
+pub marks_clause : (was now : Memory) (k : ℕ) → Framed (5 * was.layout.variables) was.layout.variables was now → k ≤ was.layout.variables → clause_in now k ≡ clause_in was k
+marks_clause was now k f few = ap (λ y. clause_of y.variables k now.words.now) f.layout ∙ clause_same was.layout.variables k was.words.now now.words.now few f.outside
+
 pub marks_falsified : (was now : Memory) (k : ℕ) → Framed (5 * was.layout.variables) was.layout.variables was now → FalsifiedInHand was k → FalsifiedInHand now k
 marks_falsified was now k f h =
     rebased now was (sym f.layout) (sym f.extent) (λ y e. (k ≤ y.variables) × (status (on (trail_at y e now.words.now)) (clause_of y.variables k now.words.now) ≡ falsified))
@@ -96,9 +100,6 @@ same_marked was now f d x =
 module _ (base count : ℕ) (was now : Memory) (f : Framed base count was now) (low : 4 * was.layout.variables ≤ base) (high : base + count ≤ 6 * was.layout.variables) where
   pub same_position : position_in now ≡ position_in was
   same_position = ap (λ y. position_at y now.extent now.words.now) f.layout ∙ ap (λ e. position_at was.layout e now.words.now) f.extent ∙ frame_position was base count now.words.now low high f.outside
-
-  pub same_keeps : Keeps was now
-  same_keeps = record { layout = f.layout; assumptions = ap (λ e. e.assumptions) f.extent; size = f.size }
 
 -- whatever taking a step comes to is that step
 module _ (n L : ℕ) (g : Guide) (p : Position) where

@@ -1,5 +1,5 @@
 -- The learned clauses one by one, and how a clause stands by the values.
-use Rattle.std.proofs.Common.{◌≡◌, ℕ, suc, ◌+◌, ◌-◌, ◌*◌, ◌<◌, ◌≤◌, Bool, true, false, cond, ◌||◌, List, [], ◌∷◌, map, length, get_or, take, drop, ℤ, pos, neg_ℤ, Some, None, All, Option, sym, refl, ap, ◌∙◌, subst, inl, inr, arith}
+use Rattle.std.proofs.Common.{◌≡◌, ℕ, suc, ◌+◌, ◌-◌, ◌<◌, Bool, true, false, cond, ◌||◌, List, [], ◌∷◌, map, length, get_or, ℤ, pos, neg_ℤ, Some, None, All, Option, sym, refl, ap, ◌∙◌, subst, inl, inr, arith}
 use Rattle.std.specs.List.{find, range_with_len}
 use Rattle.std.specs.Option.{option_or}
 use Rattle.std.proofs.lemmas.Bool.{cases_Bool, both_ways}
@@ -21,7 +21,7 @@ use Rattle.memory.specs.Decode.{trail_of, clause_of, slot_of, Coherent}
 use Rattle.memory.proofs.Words.{words_all, has_word, word_has}
 use Rattle.memory.specs.Learned.{learned_at, WithinCount}
 use Rattle.memory.specs.InHand.{InRange}
-use Rattle.memory.proofs.Reading.{part_word, part_is, values_are}
+use Rattle.std.proofs.lemmas.List.FromFn.{length-map-range_with_len, get_or-map-range_with_len}
 
 -- what the clauses still to come give, where `so_far` is the first unit one so far and none was falsified
 abbrev pub recalled : Trail → Option (List ℤ) → List (List ℤ) → Option (List ℤ)
@@ -59,14 +59,10 @@ pub status_same : (n : ℕ) (t : Trail) → WellFormed n t → (C : List ℤ) �
 status_same n t w C r = status_cong (true_in (valuation n t)) (on t) C
     (λ x h. let b = all_has (λ l. in_range n l ≡ true) C r x h in (valuation_true n t w (neg_ℤ x) (range_neg n x ∙ b), valuation_true n t w x b))
 
-pub part_status : (n L len : ℕ) (ws : List ℤ) → Coherent n L len ws → (base k : ℕ) → base + k ≤ length ws → ((i : ℕ) → i < k → in_range n (word_at ws (base + i)) ≡ true)
-    → (from many wide : ℕ) → from ≡ base → many ≡ k → wide ≡ n
-    → status (true_in (take wide (drop (3 * n) ws))) (take many (drop from ws)) ≡ status (on (trail_of n len ws)) (words_from ws base k)
-part_status n L len ws st base k h r from many wide a b c =
-    let t = trail_of n len ws in
-    ap (λ row. status (true_in row) (take many (drop from ws))) (values_are n L len ws st wide c)
-    ∙ ap (λ z. status (true_in (valuation n t)) (take many (drop z ws))) a ∙ ap (λ z. status (true_in (valuation n t)) (take z (drop base ws))) b
-    ∙ ap (status (true_in (valuation n t))) (sym (part_is ws base k h)) ∙ status_same n t st.formed (words_from ws base k) (words_all (λ l. in_range n l ≡ true) ws base k r)
+-- where the clause and the values are read as lists
+pub read_status : (n L len : ℕ) (ws : List ℤ) → Coherent n L len ws → (C row D : List ℤ) → C ≡ D → row ≡ valuation n (trail_of n len ws) → All (λ l. in_range n l ≡ true) D
+    → status (true_in row) C ≡ status (on (trail_of n len ws)) D
+read_status n L len ws st C row D c v r = rw (c, v) (status_same n (trail_of n len ws) st.formed D r)
 
 -- WHICH LITERAL IS UNASSIGNED
 
@@ -109,30 +105,27 @@ module _ (f : ℤ → Bool) (ws : List ℤ) (base k : ℕ) (h : asserts f (words
             absurd (none w.0 w.1 (ap (value_in f) w.2 ∙ open_value f e.0 u.not_true u.not_false))
       ]
 
-module _ (n L len : ℕ) (ws : List ℤ) (st : Coherent n L len ws) (k : ℕ) (few : k ≤ n) (r : InRange n ws k) (h : asserts (on (trail_of n len ws)) (clause_of n k ws) ≡ true)
-    (from many wide : ℕ) (a : from ≡ clause_at n 0) (b : many ≡ k) (c : wide ≡ n) where
-  abbrev told : ℤ → Bool
-  told = true_in (take wide (drop (3 * n) ws))
+module _ (n L len : ℕ) (ws : List ℤ) (st : Coherent n L len ws) (k : ℕ) (r : InRange n ws k) (h : asserts (on (trail_of n len ws)) (clause_of n k ws) ≡ true)
+    (C row : List ℤ) (c : C ≡ clause_of n k ws) (v : row ≡ valuation n (trail_of n len ws)) where
+  same_status : status (true_in row) (clause_of n k ws) ≡ status (on (trail_of n len ws)) (clause_of n k ws)
+  same_status = read_status n L len ws st (clause_of n k ws) row (clause_of n k ws) refl v (words_all (λ l. in_range n l ≡ true) ws (clause_at n 0) k r)
 
-  room : clause_at n 0 + k ≤ length ws
-  room = let q = st.big in omega arith
-
-  same_status : status told (clause_of n k ws) ≡ status (on (trail_of n len ws)) (clause_of n k ws)
-  same_status = ap (status told) (part_is ws (clause_at n 0) k room) ∙ part_status n L len ws st (clause_at n 0) k room r (clause_at n 0) k wide refl refl c
-
-  still : asserts told (clause_of n k ws) ≡ true
+  still : asserts (true_in row) (clause_of n k ws) ≡ true
   still = ap (λ s. is_falsified s || is_unit s) same_status ∙ h
 
-  literal : (i : ℕ) → i < k → get_or (take many (drop from ws)) i (pos 0) ≡ word_at ws (clause_at n 0 + i)
-  literal i l = part_word ws from many i (omega arith) ∙ ap (λ z. word_at ws (z + i)) a
+  pub many_in_hand : length C ≡ k
+  many_in_hand = ap length c ∙ length-map-range_with_len (word_at ws) (clause_at n 0) k
 
-  pub unit_in_hand : (i : ℕ) → i < k → value_in told (get_or (take many (drop from ws)) i (pos 0)) ≡ Unassigned → status (on (trail_of n len ws)) (clause_of n k ws) ≡ unit (word_at ws (clause_at n i))
-  unit_in_hand i l v =
+  literal : (i : ℕ) → i < k → get_or C i (pos 0) ≡ word_at ws (clause_at n 0 + i)
+  literal i l = ap (λ D. get_or D i (pos 0)) c ∙ get_or-map-range_with_len (word_at ws) (clause_at n 0) k i (clause_at n 0 + i) (pos 0) l (omega arith)
+
+  pub unit_in_hand : (i : ℕ) → i < k → value_in (true_in row) (get_or C i (pos 0)) ≡ Unassigned → status (on (trail_of n len ws)) (clause_of n k ws) ≡ unit (word_at ws (clause_at n i))
+  unit_in_hand i l u =
       let at : clause_at n 0 + i ≡ clause_at n i = omega arith in
-      sym same_status ∙ asserts_unit told ws (clause_at n 0) k still i l (ap (value_in told) (sym (literal i l)) ∙ v) ∙ ap (λ z. unit (word_at ws z)) at
+      sym same_status ∙ asserts_unit (true_in row) ws (clause_at n 0) k still i l (ap (value_in (true_in row)) (sym (literal i l)) ∙ u) ∙ ap (λ z. unit (word_at ws z)) at
 
-  pub falsified_in_hand : ((i : ℕ) → i < k → value_in told (get_or (take many (drop from ws)) i (pos 0)) ≡ Unassigned → ⊥) → status (on (trail_of n len ws)) (clause_of n k ws) ≡ falsified
-  falsified_in_hand none = sym same_status ∙ asserts_falsified told ws (clause_at n 0) k still (λ i l v. none i l (ap (value_in told) (literal i l) ∙ v))
+  pub falsified_in_hand : ((i : ℕ) → i < k → value_in (true_in row) (get_or C i (pos 0)) ≡ Unassigned → ⊥) → status (on (trail_of n len ws)) (clause_of n k ws) ≡ falsified
+  falsified_in_hand none = sym same_status ∙ asserts_falsified (true_in row) ws (clause_at n 0) k still (λ i l u. none i l (ap (value_in (true_in row)) (literal i l) ∙ u))
 
 -- what a look finds is falsified or unit
 pub look_asserting : (n : ℕ) (m : Meaning) → LawfulAt n m → (t : Trail) → WellFormed n t → (slots : List (List ℤ)) (C : List ℤ)

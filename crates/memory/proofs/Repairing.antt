@@ -1,24 +1,26 @@
 -- The repair of a conflict: what each of its parts asks, and where they lead.
-use Rattle.std.proofs.Common.{◌≡◌, ℕ, ◌+◌, ◌-◌, ◌*◌, ◌<◌, ◌≤◌, Bool, true, not, List, [], ◌∷◌, length, ℤ, neg_ℤ, All, filter, sym, refl, ap, ◌∙◌, subst, arith}
+use Rattle.std.proofs.Common.{◌≡◌, ℕ, ◌+◌, ◌*◌, ◌<◌, ◌≤◌, Bool, true, not, List, [], ◌∷◌, length, ℤ, neg_ℤ, All, filter, sym, refl, ap, ◌∙◌, subst, arith, Some, pos}
+use Rattle.std.specs.List.{position}
+use Rattle.std.proofs.lemmas.List.Quantifiers.{position-Some}
+use Rattle.std.proofs.lemmas.List.FromFn.{length-map-range_with_len, get_or-map-range_with_len}
 use Rattle.rules.specs.Literals.{in_range, has, any_pass}
 use Rattle.rules.specs.Clauses.{Status.falsified, status}
 use Rattle.rules.proofs.Literals.{has_all, has_any}
 use Rattle.rules.proofs.Statuses.{kept_in, falsified_all}
-use Rattle.theory.specs.Trail.{Entry.implied, Trail, literal, on, decided_literals, Placeable, WellFormed}
+use Rattle.theory.specs.Trail.{Entry, Entry.implied, Trail, literal, on, decided_literals, Placeable, WellFormed}
 use Rattle.theory.specs.Chunks.{in_chunk, touches, chunk, without_chunk}
+use Rattle.theory.specs.Look.{Position}
 use Rattle.theory.specs.Search.{placed}
 use Rattle.theory.specs.Conflict.{Touched, Analysed, literals_from, learned, others_of, written}
 use Rattle.theory.proofs.Trails.{AllFalse, on_top, on_below}
 use Rattle.theory.proofs.Analysis.{analysed_false, one_touching}
 use Rattle.theory.proofs.Repairing.{chunk_kept, learned_all, repaired_formed}
-use Rattle.memory.specs.Words as words
-use Rattle.memory.specs.Words.{word_at, index_of, clause_at, row_at, size, Outside}
-use Rattle.memory.specs.Decode.{literal_at, trail_of, assumptions_of, clause_of, slots_of, position_of, marked_index, marked, unmarked, Marked, Coherent, Stored, Sound, Places}
+use Rattle.memory.specs.Words.{word_at, clause_at, Outside}
+use Rattle.memory.specs.Decode.{literal_at, trail_of, clause_of, marked_index, marked, unmarked, Marked, Sound}
 use Rattle.memory.specs.Repair.{Repairs}
-use Rattle.memory.proofs.Words.{index_range, index_neg, words_same, has_word, words_all, outside_both, outside_wider}
+use Rattle.memory.proofs.Words.{index_neg, words_same, has_word, words_all}
 use Rattle.memory.proofs.Decode.{length_trail, false_ranged, outside_trail}
 use Rattle.memory.proofs.Marking.{marked_is}
-use Rattle.memory.proofs.Storing.{sound_kept, position_kept, before_trail, before_coherent}
 
 -- what is kept goes by what is said of the trail's literals
 kept_cong : (f g : ℤ → Bool) (t : Trail) → ((l : ℤ) → on t l ≡ true → f l ≡ g l) → filter (λ e. not (f (literal e))) t ≡ filter (λ e. not (g (literal e))) t
@@ -65,6 +67,13 @@ pub record Resolved (n L count len filled k j root : ℕ) (S : ℤ → Bool) (w0
   pub marks : Marked n (trail_of n len w0) (in_chunk (literal_at n w0 root) (trail_of n len w0)) w1
   pub frame : Outside (4 * n) (2 * n) w0 w1
 
+-- the first marked literal in hand
+pub first_left : (n j at : ℕ) (ws : List ℤ) → position (marked n ws) (clause_of n j ws) ≡ Some at → (at < j) × (marked n ws (word_at ws (clause_at n 0 + at)) ≡ true)
+first_left n j at ws e =
+    let p = position-Some (marked n ws) (clause_of n j ws) at (pos 0) e in
+    let inside : at < j = subst (λ k. at < k) (length-map-range_with_len (word_at ws) (clause_at n 0) j) p.0 in
+    (inside, ap (marked n ws) (sym (get_or-map-range_with_len (word_at ws) (clause_at n 0) j at (clause_at n 0 + at) (pos 0) inside (omega arith))) ∙ p.1)
+
 -- and once the first marked literal in hand is found
 pub record Found (n L count len filled k j root at : ℕ) (S : ℤ → Bool) (w0 w1 : List ℤ) : Type 0 where
   pub resolved : Resolved n L count len filled k j root S w0 w1
@@ -84,6 +93,9 @@ module _ (n L count len filled k j root : ℕ) (S : ℤ → Bool) (w0 w1 : List 
   pub left_ranged : (i : ℕ) → i < j → in_range n (word_at w1 (clause_at n 0 + i)) ≡ true
   left_ranged = false_ranged n T formed w1 (clause_at n 0) j
       (subst (AllFalse T) (sym h.clause) (learned_false n T formed d (clause_of n k w0) h.decision h.conflict h.touching S h.analysed))
+
+  pub left_all : All (λ l. in_range n l ≡ true) (clause_of n j w1)
+  left_all = words_all (λ l. in_range n l ≡ true) w1 (clause_at n 0) j left_ranged
 
   pub touching_left : any_pass (marked n w1) (clause_of n j w1) ≡ true
   touching_left = ap (any_pass (marked n w1)) h.clause ∙ some_marked n T formed d (clause_of n k w0) h.decision h.conflict h.touching S h.analysed w1 h.marks
@@ -120,81 +132,38 @@ module _ (n L count len filled k j root at : ℕ) (S : ℤ → Bool) (w0 w1 : Li
   closed = subst (WellFormed n) (sym undone) formed_next.1
 
   -- after the chunk is undone
-  module _ (rest : ℕ) (w2 : List ℤ) (tr : trail_of n rest w2 ≡ unmarked n w1 (trail_of n len w1)) (o2 : Outside (2 * n) (2 * n) w1 w2) where
-    kept_trail : trail_of n rest w2 ≡ without_chunk t root_literal
-    kept_trail = tr ∙ undone
-
+  module _ (w2 : List ℤ) (o2 : Outside (2 * n) (2 * n) w1 w2) where
     same_literal : word_at w2 (clause_at n at) ≡ u
     same_literal = o2.above (clause_at n at) (omega arith) ∙ ap (word_at w1) (omega arith)
 
-    same_learned : clause_of n j w2 ≡ learned n S
+    pub same_learned : clause_of n j w2 ≡ learned n S
     same_learned = words_same w1 w2 (clause_at n 0) (clause_at n 0) j (λ i l. o2.above (clause_at n 0 + i) (omega arith)) ∙ h.clause
 
     -- the entry that is placed
-    entry_is : implied (word_at w2 (clause_at n at)) (others_of (word_at w2 (clause_at n at)) (clause_of n j w2)) ≡ implied u (others_of u (learned n S))
+    pub entry_is : implied (word_at w2 (clause_at n at)) (others_of (word_at w2 (clause_at n at)) (clause_of n j w2)) ≡ implied u (others_of u (learned n S))
     entry_is = ap (λ v. implied v (others_of v (clause_of n j w2))) same_literal ∙ ap (λ D. implied u (others_of u D)) same_learned
 
-    pub placeable : Placeable n (trail_of n rest w2) (implied (word_at w2 (clause_at n at)) (others_of (word_at w2 (clause_at n at)) (clause_of n j w2)))
-    placeable = subst (λ s. Placeable n s (implied (word_at w2 (clause_at n at)) (others_of (word_at w2 (clause_at n at)) (clause_of n j w2)))) (sym kept_trail)
+    pub placeable : (t2 : Trail) → t2 ≡ unmarked n w1 (trail_of n len w1) → Placeable n t2 (implied (word_at w2 (clause_at n at)) (others_of (word_at w2 (clause_at n at)) (clause_of n j w2)))
+    placeable t2 e = subst (λ s. Placeable n s (implied (word_at w2 (clause_at n at)) (others_of (word_at w2 (clause_at n at)) (clause_of n j w2)))) (sym (e ∙ undone))
         (subst (Placeable n (without_chunk t root_literal)) (sym entry_is) formed_next.0)
 
-    pub undone_count : len - rest ≡ length (chunk t root_literal)
-    undone_count =
-        let a = chunk_kept t root_literal in
-        let b = length_trail n len w0 in
-        let c = sym (length_trail n rest w2) ∙ ap length kept_trail in
-        omega arith
+  -- how many are undone, where so many are left
+  pub undone_count : (many rest : ℕ) → many + rest ≡ len → length (unmarked n w1 (trail_of n len w1)) ≡ rest → many ≡ length (chunk t root_literal)
+  undone_count many rest e q =
+      let a = chunk_kept t root_literal in
+      let b = length_trail n len w0 in
+      let c = ap length (sym undone) ∙ q in
+      omega arith
 
-    -- after the literal is placed
-    module _ (w3 : List ℤ) (pl : Places n L rest (implied (word_at w2 (clause_at n at)) (others_of (word_at w2 (clause_at n at)) (clause_of n j w2))) w2 w3)
-        (co2 : Coherent n L rest w2) (co3 : Coherent n L (rest + 1) w3) (to : words.Touched n rest (index_of (word_at w2 (clause_at n at))) w2 w3) where
-      around : Outside (2 * n) (4 * n + n * (n + 1)) w0 w2
-      around = outside_both (2 * n) (4 * n + n * (n + 1)) w0 w1 w2 (outside_wider (4 * n) (2 * n) (2 * n) (4 * n + n * (n + 1)) w0 w1 (omega arith) (omega arith) h.frame)
-          (outside_wider (2 * n) (2 * n) (2 * n) (4 * n + n * (n + 1)) w1 w2 (omega arith) (omega arith) o2)
-
-      sound_undone : Sound n L count rest filled w2
-      sound_undone = sound_kept n L count len rest filled w0 w2 h.sound around co2
-
-      pub sound_placed : Sound n L count (rest + 1) filled w3
-      sound_placed = pl.sound count filled sound_undone
-
-      clause_placed : clause_of n j w3 ≡ learned n S
-      clause_placed =
-          let a = subst (λ v. index_of v < n) (sym same_literal) (index_range n u (left_ranged n L count len filled k j root S w0 w1 h at g.within)).1 in
-          let r = co3.fits in
-          let f = h.few in
-          words_same w2 w3 (clause_at n 0) (clause_at n 0) j (λ i l. to.below (clause_at n 0 + i) (omega arith) (omega arith) (omega arith)) ∙ same_learned
-
-      pub ranged_placed : All (λ l. in_range n l ≡ true) (clause_of n j w3)
-      ranged_placed = subst (All (λ l. in_range n l ≡ true)) (h.clause ∙ sym clause_placed)
-          (words_all (λ l. in_range n l ≡ true) w1 (clause_at n 0) j (left_ranged n L count len filled k j root S w0 w1 h))
-
-      position_placed : position_of n count (rest + 1) filled w3
-          ≡ record { assumptions = assumptions_of count w0; trail = implied u (others_of u (learned n S)) ∷ without_chunk t root_literal; slots = slots_of n filled w0 }
-      position_placed = pl.position count filled sound_undone
-          ∙ ap (λ p. placed p (implied (word_at w2 (clause_at n at)) (others_of (word_at w2 (clause_at n at)) (clause_of n j w2)))) (position_kept n L count len rest filled w0 w2 h.sound around)
-          ∙ rw (kept_trail, entry_is)
-
-      -- after the clause is learned
-      module _ (r : ℕ) (w4 : List ℤ) (sl : slots_of n r w4 ≡ written L (slots_of n filled w3) (clause_of n j w3)) (wi : r ≤ L) (st : Stored n r w4)
-          (be : (i : ℕ) → i < row_at n n 0 → word_at w4 i ≡ word_at w3 i) where
-        pub sound_learned : length w4 ≡ length w3 → Sound n L count (rest + 1) r w4
-        sound_learned e =
-            let f = sound_placed.few in
-            record {
-              coherent = before_coherent n L (rest + 1) w3 w4 co3 be e;
-              few = f;
-              ranged = λ i l. rw (be i (omega arith)) (sound_placed.ranged i l);
-              within = wi;
-              stored = st;
-            }
-
-        pub repairs : Repairs n L (position_of n count len filled w0) (clause_of n k w0) root_literal (position_of n count (rest + 1) r w4)
-        repairs =
-            let f = h.sound.few in
-            let ea : assumptions_of count w4 ≡ assumptions_of count w0 = words_same w3 w4 0 0 count (λ i l. be (0 + i) (omega arith)) ∙ ap (λ p. p.assumptions) position_placed in
-            let et : trail_of n (rest + 1) w4 ≡ implied u (others_of u (learned n S)) ∷ without_chunk t root_literal =
-            before_trail n L (rest + 1) w3 w4 co3 be ∙ ap (λ p. p.trail) position_placed in
-            let es : slots_of n r w4 ≡ written L (slots_of n filled w0) (learned n S) =
-            sl ∙ ap (λ D. written L (slots_of n filled w3) D) clause_placed ∙ ap (λ xs. written L xs (learned n S)) (ap (λ p. p.slots) position_placed) in
-            record { placed = u; left = S; analysed = h.analysed; is_left = u_left.0; touched = u_left.1; leads = rw (ea, et, es) }
+  -- one position after another: as it was, undone, placed, learned
+  pub repairs : (p p2 p3 p4 : Position) (e : Entry) (C2 C3 : List ℤ) → p.trail ≡ t → p2 ≡ record { assumptions = p.assumptions; trail = unmarked n w1 (trail_of n len w1); slots = p.slots }
+      → e ≡ implied u (others_of u (learned n S)) → p3 ≡ placed p2 e → C3 ≡ C2 → C2 ≡ learned n S
+      → p4 ≡ record { assumptions = p3.assumptions; trail = p3.trail; slots = written L p3.slots C3 } → Repairs n L p (clause_of n k w0) root_literal p4
+  repairs p p2 p3 p4 e C2 C3 pt e2 ee e3 c3 c2 e4 = record {
+    placed = u;
+    left = S;
+    analysed = subst (λ T. Analysed (in_chunk root_literal T) T (has (clause_of n k w0)) S) (sym pt) h.analysed;
+    is_left = u_left.0;
+    touched = subst (λ T. in_chunk root_literal T (neg_ℤ u) ≡ true) (sym pt) u_left.1;
+    leads = rw (e4, e3, e2, ee, c3, c2, undone, pt);
+  }

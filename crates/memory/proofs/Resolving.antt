@@ -1,6 +1,7 @@
 -- The walk of an analysis back along the trail, by marks and held variables.
 use Rattle.std.proofs.Common.{◌≡◌, ℕ, zero, suc, ◌+◌, ◌<◌, ◌≤◌, Bool, true, false, not, ◌&&◌, ◌||◌, eqb, List, [], ◌∷◌, ℤ, neg_ℤ, nat_abs, sym, refl, ap, ◌∙◌, subst, inl, inr, add-one, arith}
 use lib.IntN.{neg_ℤ-neg_ℤ}
+use Rattle.std.proofs.Math.Bool.{and-true}
 use Rattle.std.proofs.lemmas.Bool.{cond_both, cond-true, cond-false, ne_eqb, le-leb, lt-leb, cases_eq}
 use Rattle.rules.proofs.Literals.{all_has, has_all}
 use Rattle.theory.specs.Trail.{Entry, Entry.assumed, Entry.decided, Trail, literal, on}
@@ -78,11 +79,7 @@ module _ (n L len : ℕ) (ws : List ℤ) (st : Coherent n L len ws) (p : ℕ) (h
       let wf = front_formed n len ws st.formed p (omega arith) in
       let l = word_at ws (trail_at n p) in
       both_cong (marked_index n ws) C B (trail_of n p ws) (λ z o. c (index_of z)
-      ∙ rw (ne_eqb (index_of z) x (λ k. index_apart (trail_of n p ws) l z pl.low (index_range n z (on_range n (trail_of n p ws) wf z o)).0 pl.new pl.new_negation o (k ∙ i))) (and_true (B (index_of z))))
-    where
-      and_true : (b : Bool) → (b && true) ≡ b
-      and_true true = refl
-      and_true false = refl
+      ∙ rw (ne_eqb (index_of z) x (λ k. index_apart (trail_of n p ws) l z pl.low (index_range n z (on_range n (trail_of n p ws) wf z o)).0 pl.new pl.new_negation o (k ∙ i))) (and-true (B (index_of z))))
 
   pub replaced : (B C D : ℕ → Bool) → (marked_index n ws x && B x) ≡ true → eqb (nat_abs (word_at ws (row_at n x 0))) 3 ≡ true
       → ((y : ℕ) → C y ≡ (B y && not (eqb y x))) → ((y : ℕ) → D y ≡ (C y || names_index (reason_of n ws x) y))

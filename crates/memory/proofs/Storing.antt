@@ -1,17 +1,20 @@
 -- Slots: what is stored in them, what a write to the next one adds, and what other writes leave of a position.
-use Rattle.std.proofs.Common.{◌≡◌, ℕ, suc, ◌+◌, ◌*◌, ◌<◌, ◌≤◌, true, false, ltb, ◌≢◌, List, [], ◌∷◌, ◌++◌, length, ℤ, pos, nat_abs, All, sym, ap, ◌∙◌, subst, inl, inr, add_assoc, zero-add, arith}
+use Rattle.std.proofs.Common.{◌≡◌, ℕ, suc, ◌+◌, ◌*◌, ◌<◌, ◌≤◌, true, false, ltb, List, [], ◌∷◌, ◌++◌, length, ℤ, pos, nat_abs, All, sym, ap, ◌∙◌, subst, inl, inr, add_assoc, zero-add, arith}
 use Rattle.std.proofs.lemmas.List.FromFn.{length-map-range_with_len, map-range_with_len_more}
 use Rattle.std.proofs.lemmas.Bool.{cases_eq, lt-ltb, le-ltb}
 use Rattle.rules.specs.Literals.{in_range}
-use Rattle.theory.specs.Trail.{Entry, free, WellFormed, word}
+use Rattle.theory.specs.Trail.{free, Placeable, WellFormed, word}
+use Rattle.theory.specs.Search.{placed}
 use Rattle.theory.specs.Conflict.{written}
-use Rattle.memory.specs.Words.{word_at, words_from, index_of, trail_at, value_at, row_at, Wrote, Outside, Touched, Laid}
-use Rattle.weights.specs.declared.weigher.Standing.{Standing}
-use Rattle.weights.specs.declared.weigher.Standing.TheVariants.{Implied}
-use Rattle.memory.specs.Decode.{as_entry, standing_word, trail_of, assumptions_of, slot_count, slot_of, slots_of, position_of, Coherent, Stored, Sound, Places}
+use Rattle.memory.specs.Words.{word_at, words_from, index_of, trail_at, value_at, row_at, Wrote, Outside, clause_at}
+use Rattle.memory.specs.Decode.{as_entry, entry_of, reason_of, trail_of, assumptions_of, slot_count, slot_of, slots_of, position_of, Coherent, Stored, Sound, standing_word, clause_of}
 use Rattle.memory.proofs.Words.{index_range, counted_same, words_same, all_words, rows_apart, slot_behind, reason_before}
-use Rattle.memory.proofs.Decode.{entry_same, trail_same, place_at, room_for}
-use Rattle.memory.proofs.Placing.{known_entry, known_placeable, pushed, pushed_coherent}
+use Rattle.memory.proofs.Decode.{entry_literal, entry_same, trail_same, place_at, room_for}
+use Rattle.memory.proofs.Placing.{Touched, Laid, laid_entry, laid_set, pushed, pushed_coherent}
+use Rattle.memory.specs.declared.memory.Memory.{Memory}
+use Rattle.memory.specs.Memories.{trail_in, position_in, clause_in}
+use Rattle.weights.specs.declared.weigher.Standing.{Standing}
+use Rattle.std.proofs.Common.{length-set, set}
 use Rattle.theory.proofs.Trails.{free_parts}
 
 -- a slot is read from its row
@@ -65,28 +68,74 @@ touched_outside n p x was now a b t =
     let q = reason_before n x n b (omega arith) in
     record { below = λ i h. t.below i (omega arith) (omega arith) (omega arith); above = λ i h. t.above i (omega arith) }
 
-pub places : (n L len x : ℕ) (e : Entry) (was now : List ℤ) → len < n → x < n → trail_of n (len + 1) now ≡ e ∷ trail_of n len was
-    → Coherent n L (len + 1) now → Touched n len x was now → Places n L len e was now
-places n L len x e was now a b tr co to =
-    let o = touched_outside n len x was now a b to in
-    record {
-      trail = tr;
-      sound = λ count filled so. sound_kept n L count len (len + 1) filled was now so o co;
-      position = λ count filled so. position_kept n L count len (len + 1) filled was now so o
-          ∙ ap (λ t. record { assumptions = assumptions_of count was; trail = t; slots = slots_of n filled was }) tr;
-    }
+-- a literal that is laid is placed, with the reason that its row held
+module _ (n L a len f : ℕ) (l s : ℤ) (was now : List ℤ) (so : Sound n L a len f was) (p : Placeable n (trail_of n len was) (as_entry s l (reason_of n was (index_of l))))
+    (la : Laid n len l s was now) (same : length now ≡ length was) where
+  abbrev others : List ℤ
+  others = reason_of n was (index_of l)
 
--- a free literal that is laid as assumed or decided is placed
-pub known_placed : (n L len : ℕ) (l : ℤ) (k : Standing) (was now : List ℤ) → Coherent n L len was → free n (trail_of n len was) l ≡ true → k ≢ Implied
-    → Laid n len l (standing_word k) was now → length now ≡ length was → Places n L len (as_entry (standing_word k) l []) was now × Coherent n L (len + 1) now
-known_placed n L len l k was now st fr h la same =
-    let i = (index_range n l (free_parts n (trail_of n len was) l fr).0).1 in
-    let p = known_placeable n (trail_of n len was) l k fr h in
-    let r = room_for _ _ _ _ st.formed p in
-    let e = known_entry n now l k la.at_standing h in
-    let tr = pushed n L len l _ was now st fr r la.touched la.at_trail la.at_value e in
-    let co = pushed_coherent n L len l _ was now st fr r la.touched la.at_trail la.at_value e same (rw (la.reason 1 (omega arith) (omega arith)) (st.counts (index_of l) i)) p in
-    (places n L len (index_of l) _ was now r i tr co la.touched, co)
+  unassigned : free n (trail_of n len was) l ≡ true
+  unassigned = subst (λ k. free n (trail_of n len was) k ≡ true) (entry_literal s l others) p.unassigned
+
+  within : index_of l < n
+  within = (index_range n l (free_parts n (trail_of n len was) l unassigned).0).1
+
+  room : len < n
+  room = room_for n len was (as_entry s l others) so.coherent.formed p
+
+  entry : entry_of n now l ≡ as_entry s l others
+  entry = laid_entry n L len l s was now so.coherent within la
+
+  outside : Outside (2 * n) (4 * n + n * (n + 1)) was now
+  outside = touched_outside n len (index_of l) was now room within la.touched
+
+  pub laid_sound : Sound n L a (len + 1) f now
+  laid_sound =
+      let w = within in
+      sound_kept n L a len (len + 1) f was now so outside
+      (pushed_coherent n L len l (as_entry s l others) was now so.coherent unassigned room la.touched la.at_trail la.at_value entry same
+      (rw (la.reason 1 (omega arith) (omega arith)) (so.coherent.counts (index_of l) within)) p)
+
+  pub laid_position : position_of n a (len + 1) f now ≡ placed (position_of n a len f was) (as_entry s l others)
+  laid_position = position_kept n L a len (len + 1) f was now so outside
+      ∙ ap (λ t. record { assumptions = assumptions_of a was; trail = t; slots = slots_of n f was })
+      (pushed n L len l (as_entry s l others) was now so.coherent unassigned room la.touched la.at_trail la.at_value entry)
+
+-- the same of a memory whose three words are written one after another
+module _ (m : Memory) (l : ℤ) (k : Standing) (v t : ℤ) (x a b d : ℕ) (p : Placeable m.layout.variables (trail_in m) (as_entry (standing_word k) l (reason_of m.layout.variables m.words.now (index_of l))))
+    (e : v ≡ l) (w : t ≡ standing_word k) (is : x ≡ index_of l) (ea : a ≡ trail_at m.layout.variables m.extent.trail) (eb : b ≡ value_at m.layout.variables x) (ed : d ≡ row_at m.layout.variables x 0) where
+  abbrev now : List ℤ
+  now = set (set (set m.words.now a v) b v) d t
+
+  inside : index_of l < m.layout.variables
+  inside =
+      let n = m.layout.variables in
+      let others = reason_of n m.words.now (index_of l) in
+      let free_literal = subst (λ j. free n (trail_in m) j ≡ true) (entry_literal (standing_word k) l others) p.unassigned in
+      (index_range n l (free_parts n (trail_in m) l free_literal).0).1
+
+  words_laid : Laid m.layout.variables m.extent.trail l (standing_word k) m.words.now now
+  words_laid =
+      let n = m.layout.variables in
+      laid_set n m.layout.slots m.extent.trail l (standing_word k) v t m.words.now a b d m.sound.coherent.big (room_for n m.extent.trail m.words.now _ m.sound.coherent.formed p)
+      inside e w ea (eb ∙ ap (value_at n) is) (ed ∙ ap (λ y. row_at n y 0) is)
+
+  as_long : length now ≡ length m.words.now
+  as_long = length-set (set (set m.words.now a v) b v) d t ∙ length-set (set m.words.now a v) b v ∙ length-set m.words.now a v
+
+  pub written_sound : Sound m.layout.variables m.layout.slots m.extent.assumptions (m.extent.trail + 1) m.extent.slots now
+  written_sound = laid_sound _ _ _ _ _ l (standing_word k) m.words.now now m.sound p words_laid as_long
+
+  pub written_clause : (count : ℕ) → count ≤ m.layout.variables → clause_of m.layout.variables count now ≡ clause_in m count
+  written_clause count few =
+      let n = m.layout.variables in
+      let i = inside in
+      let fits = m.sound.coherent.fits in
+      words_same m.words.now now (clause_at n 0) (clause_at n 0) count (λ j h. words_laid.touched.below (clause_at n 0 + j) (omega arith) (omega arith) (omega arith))
+
+  pub written_position : position_of m.layout.variables m.extent.assumptions (m.extent.trail + 1) m.extent.slots now
+      ≡ placed (position_in m) (as_entry (standing_word k) l (reason_of m.layout.variables m.words.now (index_of l)))
+  written_position = laid_position _ _ _ _ _ l (standing_word k) m.words.now now m.sound p words_laid as_long
 
 -- what a change among the slots leaves of the rest
 module _ (n L len : ℕ) (was now : List ℤ) (st : Coherent n L len was) (o : (i : ℕ) → i < row_at n n 0 → word_at now i ≡ word_at was i) where
@@ -158,3 +207,25 @@ written_full n L filled ws C h =
     let e : length (slots_of n filled ws) ≡ filled = length-map-range_with_len (slot_of n ws) 0 filled in
     let b : ltb (length (slots_of n filled ws)) L ≡ false = le-ltb (length (slots_of n filled ws)) L (omega arith) in
     rw b
+
+-- the rest of a position stays when a clause is written to the next slot
+module _ (n L a len f k : ℕ) (C : List ℤ) (was mid now : List ℤ) (so : Sound n L a len f was) (few : k ≤ n) (room : f < L) (copied : words_from mid (row_at n (n + f) 1) k ≡ C)
+    (o : Outside (row_at n (n + f) 1) k was mid) (w : Wrote (row_at n (n + f) 0) (pos k) mid now) where
+  before : (i : ℕ) → i < row_at n n 0 → word_at now i ≡ word_at was i
+  before i h = let q = slot_behind n f 0 in stored_before n f k C was mid now few copied o w so.stored i (omega arith)
+
+  pub learned_sound : length now ≡ length was → All (λ l. in_range n l ≡ true) C → Sound n L a len (f + 1) now
+  learned_sound same r =
+      let small = so.few in
+      record {
+        coherent = before_coherent n L len was now so.coherent before same;
+        few = small;
+        ranged = λ i h. rw (before i (omega arith)) (so.ranged i h);
+        within = omega arith;
+        stored = stored_more n f k C was mid now few copied o w so.stored r;
+      }
+
+  pub learned_position : position_of n a len (f + 1) now ≡ record { assumptions = assumptions_of a was; trail = trail_of n len was; slots = written L (slots_of n f was) C }
+  learned_position =
+      let small = so.few in
+      rw (words_same was now 0 0 a (λ i h. before (0 + i) (omega arith)), before_trail n L len was now so.coherent before, stored_slots n f k C was mid now few copied o w so.stored, written_next n L f was C room)

@@ -1,21 +1,19 @@
 -- Taking the marked literals off the trail, from the oldest place on.
 use Rattle.std.proofs.Common.{◌≡◌, ℕ, suc, ◌+◌, ◌*◌, ◌<◌, ◌≤◌, Bool, true, false, not, ◌&&◌, ◌≢◌, ◌⊎◌, List, [], ◌∷◌, length, ℤ, pos, negsuc, filter, sym, refl, ap, ◌∙◌, subst, inl, inr, add-one, arith}
+use Rattle.std.proofs.Math.Bool.{and-false}
 use Rattle.std.proofs.lemmas.Bool.{cases_eq, cases_Bool, both_ways}
 use Rattle.rules.specs.Literals.{same}
 use Rattle.rules.proofs.Literals.{same_true}
 use Rattle.theory.specs.Trail.{Trail, literal, on, WellFormed, word}
 use Rattle.memory.specs.Words.{word_at, index_of, trail_at, value_at, row_at, Wrote, Outside}
-use Rattle.memory.specs.Decode.{entry_of, trail_of, marked_index, marked, unmarked, Coherent}
-use Rattle.memory.proofs.Words.{outside_none, outside_more}
+use Rattle.memory.specs.Decode.{entry_of, trail_of, marked_index, marked, unmarked, assumptions_of, slots_of, position_of, Coherent, Sound}
+use Rattle.memory.proofs.Words.{outside_more, outside_wider}
+use Rattle.memory.proofs.Storing.{sound_kept, position_kept}
 use Rattle.memory.proofs.Decode.{literal_of, entry_same, trail_same, place_at, at_on}
 
 -- what is kept of a trail
 pub kept_on : (M : ℤ → Bool) (t : Trail) (l : ℤ) → on (filter (λ e. not (M (literal e))) t) l ≡ (not (M l) && on t l)
-kept_on M [] l = sym (and_false (not (M l)))
-  where
-    and_false : (a : Bool) → (a && false) ≡ false
-    and_false true = refl
-    and_false false = refl
+kept_on M [] l = sym (and-false (not (M l)))
 kept_on M (e ∷ t) l = elim (cases_Bool (M (literal e))) [
   | inl m ↦ rw (m, kept_on M t l) (elim (cases_Bool (same l (literal e))) [
     | inl s ↦ rw (subst (λ z. M z ≡ true) (sym (same_true l (literal e) s)) m)
@@ -50,16 +48,6 @@ pub record Undone (n p q : ℕ) (was now : List ℤ) : Type 0 where
   pub values : (x : ℕ) → x < n → marked_index n was x ≡ false → word_at now (value_at n x) ≡ word_at was (value_at n x)
   pub gone : (x : ℕ) → x < n → marked_index n was x ≡ true
       → (word_at now (value_at n x) ≡ pos 0) ⊎ ((word_at now (value_at n x) ≡ word_at was (value_at n x)) × ((i : ℕ) → i < p → index_of (word_at was (trail_at n i)) ≢ x))
-
-pub undone_none : (n : ℕ) (ws : List ℤ) → Undone n 0 0 ws ws
-undone_none n ws = record {
-  fewer = omega arith;
-  trail = refl;
-  ahead = λ _ _ _. refl;
-  out = outside_none (2 * n) (2 * n) ws;
-  values = λ _ _ _. refl;
-  gone = λ x h m. inr (refl, λ i k. let q : ⊥ = omega arith in absurd q);
-}
 
 -- rows do not change
 rows_same : (n : ℕ) (was now : List ℤ) → Outside (2 * n) (2 * n) was now → (l : ℤ) → entry_of n now l ≡ entry_of n was l
@@ -131,3 +119,15 @@ undone_coherent n L len q was now st u e w = record {
   ]);
   counts = λ x h. rw (u.out.above (row_at n x 1) (omega arith)) (st.counts x h);
 }
+
+-- assumptions and slots stay
+module _ (n L a len f q : ℕ) (was now : List ℤ) (so : Sound n L a len f was) (u : Undone n len q was now) where
+  outside : Outside (2 * n) (4 * n + n * (n + 1)) was now
+  outside = outside_wider (2 * n) (2 * n) (2 * n) (4 * n + n * (n + 1)) was now (omega arith) (omega arith) u.out
+
+  pub undone_sound : length now ≡ length was → WellFormed n (unmarked n was (trail_of n len was)) → Sound n L a q f now
+  undone_sound e w = sound_kept n L a len q f was now so outside (undone_coherent n L len q was now so.coherent u e w)
+
+  pub undone_position : position_of n a q f now ≡ record { assumptions = assumptions_of a was; trail = unmarked n was (trail_of n len was); slots = slots_of n f was }
+  undone_position = position_kept n L a len q f was now so outside
+      ∙ ap (λ t. record { assumptions = assumptions_of a was; trail = t; slots = slots_of n f was }) u.trail

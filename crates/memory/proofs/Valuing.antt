@@ -1,7 +1,6 @@
 -- The value of a literal, by the valuation and by the trail.
-use Rattle.std.proofs.Common.{◌≡◌, ℕ, suc, ◌-◌, ◌*◌, Bool, true, false, cond, not, ◌&&◌, eqb, List, take, drop, ℤ, pos, negsuc, neg_ℤ, nat_abs, refl, ◌∙◌, arith}
-use lib.Signed.{lt_z}
-use Rattle.std.proofs.lemmas.Bool.{ne_eqb, lt-ltb}
+use Rattle.std.proofs.Common.{◌≡◌, ℕ, suc, Bool, true, false, cond, not, ◌&&◌, eqb, List, ℤ, pos, negsuc, neg_ℤ, nat_abs, refl, ◌∙◌, arith}
+use Rattle.std.proofs.lemmas.Bool.{ne_eqb}
 use Rattle.rules.specs.Literals.{in_range}
 use Rattle.rules.specs.Sources.{true_in}
 use Rattle.rules.specs.Values.{value_in}
@@ -9,12 +8,8 @@ use Rattle.rules.proofs.Literals.{range_neg}
 use Rattle.theory.specs.Trail.{Trail, on, word, valuation}
 use Rattle.theory.proofs.Valuations.{valuation_true}
 use Rattle.memory.specs.Decode.{trail_of, Coherent}
-use Rattle.memory.proofs.Reading.{values_are}
 
--- the values of a coherent memory are the trail's valuation
-pub part_values : (n L len : ℕ) (ws : List ℤ) → Coherent n L len ws → take (4 * n - 3 * n) (drop (3 * n) ws) ≡ valuation n (trail_of n len ws)
-part_values n L len ws st = values_are n L len ws st (4 * n - 3 * n) (omega arith)
-
+-- by the values, a literal is what it is on the trail
 pub value_is : (n L len : ℕ) (ws : List ℤ) → Coherent n L len ws → (row : List ℤ) → row ≡ valuation n (trail_of n len ws) → (l : ℤ) → in_range n l ≡ true
     → value_in (true_in row) l ≡ value_in (on (trail_of n len ws)) l
 value_is n L len ws st row e l r =
@@ -28,13 +23,4 @@ open_is t a = by (on t (pos (suc a))) (on t (negsuc a))
     by : (p q : Bool) → eqb (nat_abs (cond p (pos (suc a)) (cond q (negsuc a) (pos 0)))) 0 ≡ (not p && not q)
     by true q = ne_eqb (suc a) 0 (λ z. omega arith)
     by false true = ne_eqb (suc a) 0 (λ z. omega arith)
-    by false false = refl
-
--- a variable is true when its value is above 0
-pub above_zero : (t : Trail) (x : ℕ) → lt_z (pos 0) (word t (suc x)) ≡ on t (pos (suc x))
-above_zero t x = by (on t (pos (suc x))) (on t (negsuc x))
-  where
-    by : (p q : Bool) → lt_z (pos 0) (cond p (pos (suc x)) (cond q (negsuc x) (pos 0))) ≡ p
-    by true q = lt-ltb 0 (suc x) (omega arith)
-    by false true = refl
     by false false = refl

@@ -1,14 +1,16 @@
 -- Laws of addresses, of what is read at them, and of frames.
-use Rattle.std.proofs.Common.{◌≡◌, ℕ, zero, suc, ◌+◌, ◌-◌, ◌*◌, ◌<◌, ◌≤◌, Bool, true, false, ◌≢◌, ◌⊎◌, List, map, length, set, ℤ, pos, negsuc, neg_ℤ, All, Some, None, Option, sym, refl, ap, ◌∙◌, subst, inl, inr, add-zero, add_assoc, suc-mul, add-one, one-add, arith}
+use Rattle.std.proofs.Common.{◌≡◌, ℕ, zero, suc, ◌+◌, ◌-◌, ◌*◌, ◌<◌, ◌≤◌, Bool, true, false, ◌≢◌, ◌⊎◌, List, [], ◌∷◌, map, length, set, ℤ, pos, negsuc, neg_ℤ, All, Some, None, sym, refl, ap, ◌∙◌, subst, inl, inr, add-zero, add_assoc, suc-mul, add-one, one-add, arith, cond, ltb, ◌∷◌}
 use mathlib.Core.Bool.{false≢true}
-use Rattle.std.specs.List.{range_with_len, CopiedTo, SameBelow, SameFrom}
+use Rattle.std.specs.List.{range_with_len, position, position_or_len, CopiedTo, SameBelow, SameFrom}
 use Rattle.std.proofs.lemmas.List.{get_or-set_same, get_or-set_other}
 use Rattle.std.proofs.lemmas.Nat.{mul-add-lt, mul-le}
-use Rattle.std.proofs.lemmas.Bool.{cases_order, cases_Bool, or_cases, or_left, both_ways}
-use Rattle.std.specs.Option.{MatchOption, is_some, IsSome}
+use Rattle.std.proofs.lemmas.Bool.{cases_lt, lt-ltb, le-ltb, cases_order, cases_Bool, or_cases, or_left}
+use Rattle.std.specs.Option.{is_some}
 use Rattle.rules.specs.Literals.{var, same, in_range, has, any_pass}
-use Rattle.rules.proofs.Literals.{range_bounds, same_true, eq_same, has_later, all_has, has_all, any_has, has_any}
-use Rattle.memory.specs.Words.{word_at, words_from, FirstWord, index_of, row_at, size, Wrote, Outside}
+use Rattle.rules.proofs.Literals.{range_bounds, same_true, eq_same, has_later, all_has, has_all}
+use Rattle.std.proofs.lemmas.Grind.{common_steps}
+use borrow.Rule.Slice.PartMut.{put_mid}
+use Rattle.memory.specs.Words.{word_at, words_from, index_of, row_at, size, Wrote, Outside}
 
 pub wrote : (ws : List ℤ) (i : ℕ) (v : ℤ) → i < length ws → Wrote i v ws (set ws i v)
 wrote ws i v h = record { at = get_or-set_same ws i v (pos 0) h; rest = λ j d. get_or-set_other ws i j v (pos 0) d }
@@ -92,27 +94,20 @@ words_all P ws base k h = has_all P (words_from ws base k) (λ x e. let r = word
 pub all_words : (P : ℤ → Type 0) (ws : List ℤ) (base k : ℕ) → All P (words_from ws base k) → (i : ℕ) → i < k → P (word_at ws (base + i))
 all_words P ws base k h i l = all_has P (words_from ws base k) h (word_at ws (base + i)) (has_word ws base k i l)
 
--- what a search by number finds is the first word that passes
-pub first_numbered : (test : ℤ → Bool) (ws : List ℤ) (base k : ℕ) (o : Option ℕ)
-    → MatchOption o ((i : ℕ) → 0 ≤ i → i < k → test (word_at ws (base + i)) ≡ false)
-    (λ r. (0 ≤ r) × (r < k) × (test (word_at ws (base + r)) ≡ true) × ((i : ℕ) → 0 ≤ i → i < r → test (word_at ws (base + i)) ≡ false)) → FirstWord test ws base k o
-first_numbered test ws base k None m = λ i h. m i (omega arith) h
-first_numbered test ws base k (Some r) m = (m.1, m.2, λ i h. m.3 i (omega arith) h)
+-- whether there is a first that passes tells whether one passes
+pub position_any : {X : Type 0} (test : X → Bool) (xs : List X) → is_some (position test xs) ≡ any_pass test xs
+position_any {X = X} test xs = some_is (ltb (position_or_len test xs) (length xs)) (position_or_len test xs) ∙ by xs
+  where
+    some_is : (b : Bool) (i : ℕ) → is_some (cond b (Some i) None) ≡ b
+    some_is true i = refl
+    some_is false i = refl
 
--- whether there is a first word that passes tells whether one passes
-pub first_any : (test : ℤ → Bool) (ws : List ℤ) (base k : ℕ) (o : Option ℕ) → FirstWord test ws base k o → is_some o ≡ any_pass test (words_from ws base k)
-first_any test ws base k (Some r) f = sym (has_any test (words_from ws base k) (word_at ws (base + r)) (has_word ws base k r f.0) f.1)
-first_any test ws base k None f = sym (elim (cases_Bool (any_pass test (words_from ws base k))) [
-  | inl e ↦
-      let y = any_has test (words_from ws base k) e in
-      let z = word_has ws base k y.0 y.1 in
-      absurd (both_ways (test (word_at ws (base + z.0))) (f z.0 z.1) (subst (λ x. test x ≡ true) (sym z.2) y.2))
-  | inr e ↦ e
-])
+    further : (a b : ℕ) → ltb (1 + a) (suc b) ≡ ltb a b
+    further a b = elim (cases_lt a b) [ inl h ↦ lt-ltb (1 + a) (suc b) (omega arith) ∙ sym (lt-ltb a b h) | inr h ↦ le-ltb (1 + a) (suc b) (omega arith) ∙ sym (le-ltb a b h) ]
 
--- where one passes, there is a first
-pub first_there : (test : ℤ → Bool) (ws : List ℤ) (base k : ℕ) (o : Option ℕ) → FirstWord test ws base k o → any_pass test (words_from ws base k) ≡ true → IsSome o
-first_there test ws base k o f e = first_any test ws base k o f ∙ e
+    by : (ys : List X) → ltb (position_or_len test ys) (length ys) ≡ any_pass test ys
+    by [] = refl
+    by (y ∷ ys) = elim (cases_Bool (test y)) [ inl e ↦ rw e (lt-ltb 0 (suc (length ys)) (omega arith)) | inr e ↦ rw e (further (position_or_len test ys) (length ys) ∙ by ys) ]
 
 -- frames
 pub outside_none : (base count : ℕ) (ws : List ℤ) → Outside base count ws ws
@@ -126,3 +121,11 @@ outside_both base count was mid now o w = record { below = λ j l. w.below j l �
 
 pub outside_wider : (base count base' count' : ℕ) (was now : List ℤ) → base' ≤ base → base + count ≤ base' + count' → Outside base count was now → Outside base' count' was now
 outside_wider base count base' count' was now a b o = record { below = λ j l. o.below j (omega arith); above = λ j l. o.above j (omega arith) }
+
+-- what writing a part anew leaves
+module _ (ws ys : List ℤ) (base k : ℕ) (within : base + k ≤ length ws) (many : length ys ≡ k) where
+  pub part_word_put : (i : ℕ) → i < k → word_at (put_mid base k ws ys) (base + i) ≡ word_at ys i
+  part_word_put i h = grind (arith, common_steps)
+
+  pub part_outside : Outside base k ws (put_mid base k ws ys)
+  part_outside = record { below = λ i h. grind (arith, common_steps); above = λ i h. grind (arith, common_steps) }

@@ -4,17 +4,12 @@ use Rattle.weights.specs.Weighing.{total_weight}
 use Rattle.theory.specs.Weighing.{Member, Weighing}
 use Rattle.theory.specs.Trail.{Entry, Entry.assumed, Entry.decided, Entry.implied, Trail}
 use Rattle.theory.specs.Chunks.{touches, in_chunk}
-use Rattle.theory.specs.Look.{Position}
 use Rattle.memory.specs.Words.{word_at, trail_at}
-use Rattle.memory.specs.Decode.{trail_of, slots_of, Marked}
+use Rattle.memory.specs.Decode.{trail_of, Marked}
 
 -- chunks compare by what their members weigh together
 abbrev pub by_total : {W : Type 0} → (W → W → Bool) → W → (W → W → W) → (Member → W) → Weighing
 by_total at_most zero plus weight a b = at_most (total_weight zero plus weight a) (total_weight zero plus weight b)
-
--- the position that the words stand for, under these assumptions
-abbrev pub position_with : List ℤ → ℕ → ℕ → ℕ → List ℤ → Position
-position_with assumptions n len filled ws = record { assumptions = assumptions; trail = trail_of n len ws; slots = slots_of n filled ws }
 
 -- whether an entry is decided and the clause touches its chunk
 abbrev pub is_touched : Trail → List ℤ → Entry → Bool

@@ -6,7 +6,6 @@ use Rattle.weights.specs.declared.weigher.Standing.{Standing}
 use Rattle.weights.specs.declared.weigher.Standing.TheVariants.{Assumed, Decided, Implied}
 use Rattle.theory.specs.Trail.{Entry, Entry.assumed, Entry.decided, Entry.implied, Trail, literal, on, WellFormed, word}
 use Rattle.theory.specs.Look.{Position}
-use Rattle.theory.specs.Search.{placed}
 use Rattle.memory.specs.Words.{word_at, words_from, index_of, trail_at, value_at, clause_at, mark_at, row_at, size}
 
 -- what a row's first word says of how a literal stands: 3 for implied, 1 for assumed, anything else for decided
@@ -119,9 +118,3 @@ pub record Sound (n L count len filled : ℕ) (ws : List ℤ) : Type 0 where
   pub ranged : (i : ℕ) → i < count → in_range n (word_at ws i) ≡ true
   pub within : filled ≤ L
   pub stored : Stored n filled ws
-
--- One entry more: whatever the assumptions and the slots, the words stood for a position, and stand for that one with the entry placed.
-pub record Places (n L len : ℕ) (e : Entry) (was now : List ℤ) : Type 0 where
-  pub trail : trail_of n (len + 1) now ≡ e ∷ trail_of n len was
-  pub sound : (count filled : ℕ) → Sound n L count len filled was → Sound n L count (len + 1) filled now
-  pub position : (count filled : ℕ) → Sound n L count len filled was → position_of n count (len + 1) filled now ≡ placed (position_of n count len filled was) e

@@ -1,6 +1,6 @@
 pub mod Words
 pub mod Decode
-pub mod Standing
+pub mod InUse
 pub mod Props
 pub mod Memories
 pub mod Analysis

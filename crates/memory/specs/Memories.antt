@@ -5,7 +5,7 @@ use Rattle.theory.specs.Trail.{Trail, on}
 use Rattle.theory.specs.Look.{Position}
 use Rattle.memory.specs.Words.{Outside}
 use Rattle.memory.specs.Decode.{clause_of, slots_of}
-use Rattle.memory.specs.Standing.{trail_at, position_at}
+use Rattle.memory.specs.InUse.{trail_at, position_at}
 use Rattle.memory.specs.declared.memory.Memory.{Memory}
 
 abbrev pub trail_in : Memory → Trail

@@ -6,7 +6,7 @@ use native.Mathlib.Bridge.{le_prop}
 use lib.IntN.{ℤ_set}
 use Rattle.theory.specs.Trail.{Entry, Entry.assumed, Entry.decided, Entry.implied, Trail, on, Grounded, Placeable, WellFormed}
 use Rattle.memory.specs.Decode.{trail_of, Coherent, Stored, Sound}
-use Rattle.memory.specs.Standing.{Standing}
+use Rattle.memory.specs.InUse.{SoundAt}
 use Rattle.memory.specs.declared.layout.Layout.{Layout}
 use Rattle.memory.specs.declared.layout.Extent.{Extent}
 
@@ -46,5 +46,5 @@ sound_prop n L count len filled ws a b = λ i. record {
   stored = stored_prop n filled ws a.stored b.stored i;
 }
 
-pub standing_prop : (layout : Layout) (extent : Extent) (ws : List ℤ) → IsProp (Standing layout extent ws)
-standing_prop layout extent ws = sound_prop layout.variables layout.slots extent.assumptions extent.trail extent.slots ws
+pub sound_at_prop : (layout : Layout) (extent : Extent) (ws : List ℤ) → IsProp (SoundAt layout extent ws)
+sound_at_prop layout extent ws = sound_prop layout.variables layout.slots extent.assumptions extent.trail extent.slots ws

@@ -44,7 +44,14 @@ abbrev pub kind_of : Kind → StepKind
 kind_of Assumed = assuming
 kind_of Decided = deciding
 kind_of Implied = implying
-kind_of Conflict = conflicting
+kind_of (Conflict undone) = conflicting
+
+-- how many literals a step undid
+abbrev pub undone_by : Kind → ℕ
+undone_by Assumed = 0
+undone_by Decided = 0
+undone_by Implied = 0
+undone_by (Conflict undone) = undone
 
 abbrev pub report_of : Report → RunReport
 report_of r = record {

@@ -6,10 +6,10 @@ use Rattle.theory.specs.Run.{Search}
 use Rattle.memory.specs.Words.{word_at}
 use Rattle.memory.specs.Decode.{marked}
 use Rattle.memory.specs.Reports.{verdict_of}
-use Rattle.memory.specs.Standing.{trail_at, position_at}
+use Rattle.memory.specs.InUse.{trail_at, position_at}
 use Rattle.memory.specs.declared.layout.Layout.{Layout}
 use Rattle.memory.specs.declared.layout.Extent.{Extent}
-use Rattle.memory.specs.declared.memory.Memory.{Memory}
+use Rattle.memory.specs.declared.progress.Progress.{Progress}
 use Rattle.memory.specs.declared.report.Verdict.{Verdict}
 use Rattle.memory.specs.declared.report.Verdict.TheVariants.{Open, Paused, Model, Refuted}
 
@@ -36,6 +36,6 @@ names_by Refuted ls = ls
 abbrev pub search_at : Layout → Extent → Verdict → Option ℕ → List ℤ → Search
 search_at layout extent verdict failed ws = record { position = position_at layout extent ws; verdict = verdict_of verdict; named = names_by verdict (named_at layout extent failed ws) }
 
--- the search of a memory
-abbrev pub search_in : Memory → Verdict → Option ℕ → Search
-search_in m verdict failed = search_at m.layout m.extent verdict failed m.words.now
+-- the search that has come so far
+abbrev pub search_in : Progress → Search
+search_in p = search_at p.memory.layout p.memory.extent p.verdict p.failed p.memory.words.now

@@ -3,7 +3,6 @@ use Rattle.std.specs.Prelude.{ℕ, ◌*◌, ◌<◌, Bool, true, false, cond, �
 use Rattle.rules.specs.Literals.{in_range, has}
 use Rattle.rules.specs.Sources.{makes, assignment, Lawful}
 use Rattle.theory.specs.Trail.{on}
-use Rattle.theory.specs.Run.{Search as Searched}
 use Rattle.theory.specs.Calls.{Call, Reply, State, State.idle, State.searching, State.settled, Next}
 use Rattle.theory.specs.Events.{Event, EachRun, granted_runs, reported_steps}
 use Rattle.theory.specs.Promise.{History, Promise, step_bound}
@@ -26,17 +25,11 @@ standing s = assumptions_of s.assumptions s.words.now
 abbrev pub idle_state : Idle → State
 idle_state s = idle (standing s)
 
-abbrev pub searched : Search → Searched
-searched s = search_in s.memory s.verdict s.failed
-
 abbrev pub search_state : Search → State
-search_state s = searching (searched s)
-
-abbrev pub found : Settled → Searched
-found s = search_in s.memory s.verdict s.failed
+search_state s = searching (search_in s.progress)
 
 abbrev pub settled_state : Settled → State
-settled_state s = settled (found s)
+settled_state s = settled (search_in s.progress)
 
 -- THE PROMISE
 
@@ -89,9 +82,9 @@ is_refuted Refuted = true
 
 -- 6: the verdict is not Model. 2: the variable is outside 1 to n.
 abbrev pub value_answer : Settled → ℕ → Result Bool Refusal
-value_answer s v = cond (is_model s.verdict)
-    (cond (in_range s.memory.layout.variables (pos v)) (Ok (makes (assignment s.memory.layout.variables (on (found s).position.trail)) (pos v))) (Err NoVariable)) (Err NoModel)
+value_answer s v = cond (is_model s.progress.verdict)
+    (cond (in_range s.progress.memory.layout.variables (pos v)) (Ok (makes (assignment s.progress.memory.layout.variables (on (search_in s.progress).position.trail)) (pos v))) (Err NoVariable)) (Err NoModel)
 
 -- 7: the verdict is not Refuted. 2: the literal is 0, or its variable is outside 1 to n.
 abbrev pub named_answer : Settled → ℤ → Result Bool Refusal
-named_answer s l = cond (is_refuted s.verdict) (cond (in_range s.memory.layout.variables l) (Ok (has (found s).named l)) (Err NoVariable)) (Err NotRefuted)
+named_answer s l = cond (is_refuted s.progress.verdict) (cond (in_range s.progress.memory.layout.variables l) (Ok (has (search_in s.progress).named l)) (Err NoVariable)) (Err NotRefuted)

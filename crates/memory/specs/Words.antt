@@ -1,6 +1,6 @@
 -- A session's words: where each stands, and what is left as it was. In this order: assumptions 2n, trail n, values n, clause n, marks n,
 -- and rows of n + 1 words, one for the reason of each variable and one for each slot.
-use Rattle.std.specs.Prelude.{◌≡◌, ℕ, pred, ◌+◌, ◌*◌, ◌<◌, ◌≤◌, Bool, true, false, ◌≢◌, List, map, ℤ, pos, negsuc, slice_index_or, Some, None, Option}
+use Rattle.std.specs.Prelude.{◌≡◌, ℕ, pred, ◌+◌, ◌*◌, ◌<◌, ◌≤◌, ◌≢◌, List, map, ℤ, pos, negsuc, slice_index_or}
 use Rattle.std.specs.List.{range_with_len}
 
 abbrev pub word_at : List ℤ → ℕ → ℤ
@@ -9,11 +9,6 @@ word_at ws i = slice_index_or ws i (pos 0)
 -- so many words from an address on
 abbrev pub words_from : List ℤ → ℕ → ℕ → List ℤ
 words_from ws base k = map (word_at ws) (range_with_len base k)
-
--- the number, from 0, of the first of so many words from an address on that passes a test, if one does
-abbrev pub FirstWord : (ℤ → Bool) → List ℤ → ℕ → ℕ → Option ℕ → Type 0
-FirstWord test ws base k None = (i : ℕ) → i < k → test (word_at ws (base + i)) ≡ false
-FirstWord test ws base k (Some r) = (r < k) × (test (word_at ws (base + r)) ≡ true) × ((i : ℕ) → i < r → test (word_at ws (base + i)) ≡ false)
 
 -- the index of a literal's variable, from 0
 abbrev pub index_of : ℤ → ℕ
@@ -54,16 +49,3 @@ pub record Wrote (i : ℕ) (v : ℤ) (was now : List ℤ) : Type 0 where
 pub record Outside (base count : ℕ) (was now : List ℤ) : Type 0 where
   pub below : (i : ℕ) → i < base → word_at now i ≡ word_at was i
   pub above : (i : ℕ) → base + count ≤ i → word_at now i ≡ word_at was i
-
--- only the trail's word at place p and the value and the row of the variable of index x may have changed
-pub record Touched (n p x : ℕ) (was now : List ℤ) : Type 0 where
-  pub below : (i : ℕ) → i ≢ trail_at n p → i ≢ value_at n x → i < row_at n x 0 → word_at now i ≡ word_at was i
-  pub above : (i : ℕ) → row_at n x (n + 1) ≤ i → word_at now i ≡ word_at was i
-
--- the words of a literal l that is laid on the trail at place len: that and its value are l, its row begins with s, and its reason is as it was
-pub record Laid (n len : ℕ) (l s : ℤ) (was now : List ℤ) : Type 0 where
-  pub touched : Touched n len (index_of l) was now
-  pub at_trail : word_at now (trail_at n len) ≡ l
-  pub at_value : word_at now (value_at n (index_of l)) ≡ l
-  pub at_standing : word_at now (row_at n (index_of l) 0) ≡ s
-  pub reason : (k : ℕ) → 1 ≤ k → k ≤ n → word_at now (row_at n (index_of l) k) ≡ word_at was (row_at n (index_of l) k)

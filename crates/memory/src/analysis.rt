@@ -1,36 +1,17 @@
 //! The analysis of a falsified clause: its set of literals is held by variable in lent scratch bytes.
-ghost use Rattle.std.specs.Prelude.{◌≡◌, ℕ, ◌+◌, ◌*◌, ◌<◌, ◌≤◌, Bool, false, not, ◌&&◌, ◌||◌, length, replicate, ℤ, ◌==◌, unsigned_abs};
+ghost use Rattle.std.specs.Prelude.{◌≡◌, ℕ, ◌+◌, ◌*◌, ◌<◌, ◌≤◌, Bool, false, not, ◌&&◌, ◌||◌, length, replicate, ℤ, ◌==◌};
 ghost use Rattle.rules.specs.Literals.{has};
 ghost use Rattle.theory.specs.Trail.{WellFormed};
 ghost use Rattle.theory.specs.Chunks.{in_chunk};
 ghost use Rattle.theory.specs.Conflict.{learned, Analysed};
 ghost use Rattle.theory.proofs.Trails.{AllFalse};
 ghost use Rattle.theory.proofs.Analysis.{analyse as analysis};
-ghost use Rattle.memory.specs.Words.{word_at, words_from, value_at, size, Outside};
-ghost use Rattle.memory.specs.Decode.{literal_at, entry_at, trail_of, clause_of, marked_index, marked, Marked, Coherent};
+ghost use Rattle.memory.specs.Decode.{literal_at, entry_at, trail_of, clause_of, marked_index, marked, Marked};
 ghost use Rattle.memory.specs.Analysis.{held, set_of, names_index, one, both_count, analysed_at};
 ghost use Rattle.memory.specs.Memories.{trail_in, clause_in, FalsifiedInHand, Framed};
 
-use crate::layout::{Layout, index_of};
 use crate::memory::Memory;
-use crate::values::is_open;
 use weights::weigher::Standing;
-
-/// Whether a variable is held.
-fn holds(scratch: &[u8], x: usize) -> bool
-    requires { x < length scratch.now }
-    ensures { result ≡ held scratch.now x }
-{
-    scratch[x] != 0
-}
-
-/// Lets a variable go.
-fn forget(scratch: &mut [u8], x: usize)
-    requires { x < length scratch.old }
-    ensures { (y : ℕ) → held scratch.new y ≡ (held scratch.old y && not (y == x)) }
-{
-    scratch[x] = 0;
-}
 
 impl Memory<'_> {
     /// Analyses the falsified clause of `k` words in hand for the chunk of the literal at the place `root`, and marks that chunk.
@@ -51,7 +32,7 @@ impl Memory<'_> {
         scratch.fill(0);
         let mut set = Held(scratch);
         self.resolve(k, set.0);
-        collect(self.words, self.layout, self.extent.trail, set.0)
+        self.collect(set.0)
     }
 
     /// Resolves the falsified clause of `k` words in hand back along the trail, until at most one of its literals is marked.
@@ -64,7 +45,7 @@ impl Memory<'_> {
             ≡ analysis (marked self.now.layout.variables self.now.words.now) (trail_in self.now) (has (clause_in self.now k)) }
     {
         let len = self.extent.trail;
-        let mut touching = self.include_all(len, self.layout.clause(0), k, scratch);
+        let mut touching = self.include_all(len, self.clause(k), scratch);
         for place in (0..len).rev() {
             if touching <= 1 {
                 break;
@@ -87,38 +68,36 @@ impl Memory<'_> {
         if !self.is_hit(x, scratch) {
             return touching;
         }
-        if self.layout.standing(self.words, x) != Standing::Implied {
+        if self.standing(x) != Standing::Implied {
             return touching - 1;
         }
         forget(scratch, x);
-        touching - 1 + self.include_all(place, self.layout.reason(x), self.reason_count(x), scratch)
+        touching - 1 + self.include_all(place, self.reason(x), scratch)
     }
 
     /// Whether a variable is marked and held.
     fn is_hit(&self, x: usize, scratch: &[u8]) -> bool
-        requires within { x < self.now.layout.variables }
-        requires room { self.now.layout.variables ≤ length scratch.now }
+        requires { x < self.now.layout.variables }
         ensures { result ≡ (marked_index self.now.layout.variables self.now.words.now x && held scratch.now x) }
     {
-        self.layout.marked(self.words, x) && holds(scratch, x)
+        self.is_marked(x) && holds(scratch, x)
     }
 
-    /// Holds the variables of `k` words from `base` on, whose literals are false on the oldest `place` entries of the trail.
+    /// Holds the variables of literals that are false on the oldest `place` entries of the trail.
     /// Says how many of these are new and marked.
-    fn include_all(&self, place: usize, base: usize, k: usize, scratch: &mut [u8]) -> usize
-        requires within { base + k ≤ length self.now.words.now }
+    fn include_all(&self, place: usize, literals: &[i32], scratch: &mut [u8]) -> usize
         requires formed { WellFormed self.now.layout.variables (trail_of self.now.layout.variables place self.now.words.now) }
-        requires falsified { AllFalse (trail_of self.now.layout.variables place self.now.words.now) (words_from self.now.words.now base k) }
+        requires falsified { AllFalse (trail_of self.now.layout.variables place self.now.words.now) literals.now }
         requires room { self.now.layout.variables ≤ length scratch.old }
-        ensures held { (x : ℕ) → held scratch.new x ≡ (held scratch.old x || names_index (words_from self.now.words.now base k) x) }
+        ensures held { (x : ℕ) → held scratch.new x ≡ (held scratch.old x || names_index literals.now x) }
         ensures new { result + both_count (marked_index self.now.layout.variables self.now.words.now) (held scratch.old) (trail_of self.now.layout.variables place self.now.words.now)
             ≡ both_count (marked_index self.now.layout.variables self.now.words.now) (held scratch.new) (trail_of self.now.layout.variables place self.now.words.now) }
-        ensures small { result ≤ k }
+        ensures small { result ≤ length literals.now }
     {
         // Not by `sum`: each addend changes the scratch.
         let mut new: usize = 0;
-        for literal in &self.words[base..base + k] {
-            new += self.include(index_of(*literal), scratch);
+        for literal in literals {
+            new += self.include(self.layout.index_of(*literal), scratch);
         }
         new
     }
@@ -135,38 +114,50 @@ impl Memory<'_> {
             return 0;
         }
         scratch[x] = 1;
-        usize::from(self.layout.marked(self.words, x))
+        usize::from(self.is_marked(x))
     }
-}
 
-/// Whether what is left has a literal of a variable: it is held and has a value.
-fn is_left(words: &[i32], layout: Layout, x: usize, scratch: &[u8]) -> bool
-    requires big { size layout.variables layout.slots ≤ length words.now }
-    requires within { x < layout.variables }
-    requires room { layout.variables ≤ length scratch.now }
-    ensures { result ≡ (held scratch.now x && not (unsigned_abs (word_at words.now (value_at layout.variables x)) == 0)) }
-{
-    holds(scratch, x) && !is_open(words, layout, x)
-}
-
-/// Writes the literals of the held set into the clause in hand, by rising variable, and says how many there are.
-/// `len` says how long the trail is on which they are false.
-fn collect(words: &mut [i32], layout: Layout, len: usize, scratch: &[u8]) -> usize
-    requires coherent { Coherent layout.variables layout.slots len words.old }
-    requires room { layout.variables ≤ length scratch.now }
-    ensures clause { clause_of layout.variables result words.new ≡ learned layout.variables (set_of (trail_of layout.variables len words.old) (held scratch.now)) }
-    ensures few { result ≤ layout.variables }
-    ensures outside { Outside (4 * layout.variables) layout.variables words.old words.new }
-{
-    // The values read and the literals written are of one slice, so they are told apart by their numbers.
-    let mut count: usize = 0;
-    for x in 0..layout.variables {
-        if is_left(words, layout, x, scratch) {
-            words[layout.clause(count)] = -layout.value(words, x);
-            count += 1;
+    /// Writes the literals of the held set, which are false on the trail, into the clause in hand, by rising variable, and says how
+    /// many there are.
+    fn collect(&mut self, scratch: &[u8]) -> usize
+        ensures clause { clause_of self.old.layout.variables result self.new.words.now ≡ learned self.old.layout.variables (set_of (trail_in self.old) (held scratch.now)) }
+        ensures few { result ≤ self.old.layout.variables }
+        ensures frame { Framed (4 * self.old.layout.variables) self.old.layout.variables self.old self.new }
+    {
+        let n = self.layout.variables;
+        let words = &mut *self.words;
+        // All the words are split: where a part of them is lent and split, it is not known what is left of it.
+        let (front, clause) = words.split_at_mut(4 * n);
+        let values = &front[3 * n..];
+        // A loop: the number of the literals is needed besides the clause.
+        let mut count: usize = 0;
+        for (x, value) in values.iter().enumerate() {
+            if *value != 0 && holds(scratch, x) {
+                clause[count] = -*value;
+                count += 1;
+            }
         }
+        count
     }
-    count
+}
+
+// These are no methods of the guard (`Held`), since each function would be lent the guard then: it could be given other bytes, so that
+// each would have to promise that it has the same ones. That the bytes have room for every variable is asked of bytes and memory
+// together, which the caller lends each by itself.
+
+/// Whether a variable is held.
+fn holds(scratch: &[u8], x: usize) -> bool
+    ensures { result ≡ held scratch.now x }
+{
+    scratch.get(x).is_some_and(|byte| *byte != 0)
+}
+
+/// Lets a variable go.
+fn forget(scratch: &mut [u8], x: usize)
+    requires { x < length scratch.old }
+    ensures { (y : ℕ) → held scratch.new y ≡ (held scratch.old y && not (y == x)) }
+{
+    scratch[x] = 0;
 }
 
 /// The set that an analysis goes by, in lent bytes, which are all 0 again once it is let go.

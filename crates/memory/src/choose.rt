@@ -1,6 +1,6 @@
 //! Which chunk a conflict undoes: the lightest of those that are allowed.
 ghost use Rattle.std.specs.Prelude.{◌≡◌, ◌*◌, ◌<◌, Bool, true, take, ℤ};
-ghost use Rattle.theory.specs.Chunks.{in_chunk};
+ghost use Rattle.theory.specs.Chunks.{in_chunk, touches};
 ghost use Rattle.theory.proofs.Choice.{touched_decisions, lighter, first_least, choice, Chooses};
 ghost use Rattle.memory.specs.Decode.{literal_at, entry_at, Marked};
 ghost use Rattle.memory.specs.Candidates.{by_total, is_touched, decision_at, PlaceWithin, PlaceMarked};
@@ -10,6 +10,9 @@ use crate::memory::Memory;
 use weights::chooser::{Candidate, Chooser};
 use weights::weigher::{Standing, Weigher};
 
+// That the clause in hand is falsified is asked of the memory, and the number of its literals is passed on. A struct that lends the
+// memory for a conflict was tried: it is proved, but each of its functions has to promise besides that it lends the same memory, by
+// the name of the reference, and that the number stays.
 impl Memory<'_> {
     /// The place of the decision whose chunk is to be undone, if the falsified clause of `k` literals in hand touches the chunk of one:
     /// while a slot is empty the lightest of these, the latest of equal ones; otherwise the latest. Its chunk is then marked.
@@ -54,6 +57,7 @@ impl Memory<'_> {
         ensures within { PlaceWithin self.old.extent.trail result }
         ensures frame { Framed (5 * self.old.layout.variables) self.old.layout.variables self.old self.new }
     {
+        // Not by `fold`: each look at a place changes the marks.
         let mut chooser: Chooser<W::Weight> = Chooser::new();
         for place in (0..self.extent.trail).rev() {
             if self.touched_at(place, k) {
@@ -73,5 +77,17 @@ impl Memory<'_> {
         ensures frame { Framed (5 * self.old.layout.variables) self.old.layout.variables self.old self.new }
     {
         self.standing_at(place) == Standing::Decided && self.mark_touched(place, k)
+    }
+
+    /// Marks the chunk of the literal at the place `root`, and says whether the falsified clause of `k` words in hand touches it.
+    fn mark_touched(&mut self, root: usize, k: usize) -> bool
+        requires rooted { root < self.old.extent.trail }
+        requires falsified { FalsifiedInHand self.old k }
+        ensures touches { result ≡ touches (trail_in self.old) (literal_at self.old.layout.variables self.old.words.now root) (clause_in self.old k) }
+        ensures marked { Marked self.old.layout.variables (trail_in self.old) (in_chunk (literal_at self.old.layout.variables self.old.words.now root) (trail_in self.old)) self.new.words.now }
+        ensures frame { Framed (5 * self.old.layout.variables) self.old.layout.variables self.old self.new }
+    {
+        self.mark_chunk(root);
+        self.any_marked(self.clause(k))
     }
 }

@@ -8,9 +8,7 @@ ghost use Rattle.memory.specs.Learned.{WithinCount};
 ghost use Rattle.memory.specs.Deciding.{assumption_at, Decides};
 ghost use Rattle.memory.specs.Memories.{trail_in};
 
-use crate::layout::index_of;
 use crate::memory::Memory;
-use crate::values::is_open;
 use rules::literal::{Value, is_in_range};
 
 impl Memory<'_> {
@@ -28,7 +26,7 @@ impl Memory<'_> {
         ensures decides { Decides self.now.layout.variables (trail_in self.now) preferences.now result }
         ensures unassigned { (l : ℤ) → result ≡ Some l → free self.now.layout.variables (trail_in self.now) l ≡ true }
     {
-        // `or_else` tells a caller nothing of what a closure over a memory answers.
+        // No `or_else`: what it tells of its closure is that it was called, and `lowest_free` promises no equation to go on with.
         match self.first_free(preferences) {
             None => self.lowest_free(),
             preferred => preferred,
@@ -50,14 +48,14 @@ impl Memory<'_> {
         ensures { result ≡ free self.now.layout.variables (trail_in self.now) literal }
     {
         is_in_range(literal, self.layout.variables as u32)
-            && is_open(self.words, self.layout, index_of(literal))
+            && self.is_open(self.layout.index_of(literal))
     }
 
     /// The lowest unassigned variable, made true: what is decided where nothing is preferred.
     fn lowest_free(&self) -> Option<i32>
         ensures { Decides self.now.layout.variables (trail_in self.now) [] result }
     {
-        let open = (0..self.layout.variables).find(|x| is_open(self.words, self.layout, *x))?;
+        let open = (0..self.layout.variables).find(|x| self.is_open(*x))?;
         Some(open as i32 + 1)
     }
 }

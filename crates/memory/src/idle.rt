@@ -3,11 +3,12 @@ ghost use Rattle.std.specs.Prelude.{◌≡◌, ◌≤◌, [], ◌∷◌, ◌++�
 ghost use Rattle.theory.specs.Calls.{Call.assume as assuming, Call.clear as clearing, Call.begin as beginning, Call.close as closing, Reply.done, State.idle, State.closed, begun};
 ghost use Rattle.memory.specs.Words.{size};
 ghost use Rattle.memory.specs.Reports.{granted_as};
-ghost use Rattle.memory.specs.Sessions.{standing, idle_state, searched, search_state, Lived, Promised, fitting, fit_answer, assume_answer};
+ghost use Rattle.memory.specs.Searches.{search_in};
+ghost use Rattle.memory.specs.Sessions.{standing, idle_state, search_state, Lived, Promised, fitting, fit_answer, assume_answer};
 
-use crate::fresh::{empty, wipe};
 use crate::layout::{Extent, Layout};
 use crate::memory::Memory;
+use crate::progress::Progress;
 use crate::report::{Refusal, Verdict};
 use crate::states::{Idle, Search};
 use rules::literal::is_in_range;
@@ -40,6 +41,7 @@ fn words_needed(variables: usize, slots: usize) -> usize
 }
 
 /// The layout of so many variables and slots, or of none where they do not fit into so many words.
+// No Option: `open` refuses nothing, so a session that does not fit is one of no variables and no slots.
 fn fitted(variables: u32, slots: u32, words: usize) -> Layout
     ensures variables { result.variables ≡ (if fitting variables slots words then variables else 0) }
     ensures slots { result.slots ≡ (if fitting variables slots words then slots else 0) }
@@ -107,30 +109,33 @@ impl<'a> Idle<'a> {
 
     /// Begins a search under the assumptions that stand, with an empty trail and empty slots.
     pub fn begin(self) -> Search<'a>
-        ensures search { searched result ≡ begun (standing self.entry) }
+        ensures search { search_in result.progress ≡ begun (standing self.entry) }
         ensures promised { Promised self.entry.layout.variables self.entry.layout.slots (idle_state self.entry) beginning done (search_state result) }
-        ensures layout { result.memory.layout ≡ self.entry.layout }
-        ensures size { length result.memory.words.now ≡ length self.entry.words.now }
+        ensures layout { result.progress.memory.layout ≡ self.entry.layout }
+        ensures size { length result.progress.memory.words.now ≡ length self.entry.words.now }
     {
         let Idle {
             words,
             layout,
             assumptions,
         } = self;
-        empty(words, layout);
+        words[2 * layout.variables..].fill(0);
         let extent = Extent {
             assumptions,
             trail: 0,
             slots: 0,
         };
+        let memory = Memory {
+            words,
+            layout,
+            extent,
+        };
         Search {
-            memory: Memory {
-                words,
-                layout,
-                extent,
+            progress: Progress {
+                memory,
+                verdict: Verdict::Open,
+                failed: None,
             },
-            verdict: Verdict::Open,
-            failed: None,
             answer: None,
         }
     }
@@ -145,7 +150,7 @@ impl<'a> Idle<'a> {
             layout: _,
             assumptions: _,
         } = self;
-        wipe(words);
+        words.fill(0);
         words
     }
 }

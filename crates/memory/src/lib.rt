@@ -2,7 +2,7 @@
 //! placing and learning.
 //!
 //! Public are the states of a session with their calls, and what these answer. A search works on a `Memory`, whose words stand for a
-//! position; a call asks nothing.
+//! position; no public call asks anything of its caller.
 #![tactic(auto)]
 
 mod analysis;
@@ -12,7 +12,6 @@ mod clause;
 mod deciding;
 mod drive;
 mod finish;
-mod fresh;
 mod guide;
 mod idle;
 mod layout;
@@ -21,6 +20,7 @@ mod marks;
 mod memory;
 mod naming;
 mod plan;
+mod progress;
 mod reasons;
 mod repair;
 pub mod report;

@@ -15,14 +15,14 @@ use rules::source::Source;
 /// How a found clause stands: all its literals are false, or all but the one of this number, from 0, whose variable is unassigned.
 // No Option: the two cases are the statuses that the rules speak of, and `Falsified` says more than `None`.
 #[derive(Clone, Copy, PartialEq, Eq, Debug)]
-pub enum Assertion {
+pub(crate) enum Assertion {
     Falsified,
     Unit(usize),
 }
 
 /// A found clause: how many literals of it are in hand, and how it stands.
 #[derive(Clone, Copy, PartialEq, Eq, Debug)]
-pub struct Found {
+pub(crate) struct Found {
     pub count: usize,
     pub assertion: Assertion,
 }
@@ -74,9 +74,8 @@ impl Memory<'_> {
         requires asserting { asserts (on (trail_in self.now)) (clause_in self.now count) ≡ true }
         ensures { StandsSo self.now.layout.variables (trail_in self.now) self.now.words.now count result }
     {
-        let n = self.layout.variables;
         // A match, since the proof goes by its two cases.
-        match first_unassigned(&self.words[4 * n..4 * n + count], &self.words[3 * n..4 * n]) {
+        match first_unassigned(self.clause(count), self.values()) {
             Some(open) => Assertion::Unit(open),
             None => Assertion::Falsified,
         }

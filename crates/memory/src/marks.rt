@@ -1,43 +1,30 @@
-//! Marks: which variables of the trail are in a chunk, and whether a clause touches it.
-ghost use Rattle.std.specs.Prelude.{◌≡◌, ℕ, ◌+◌, ◌*◌, ◌<◌, ◌≤◌, true, length, pos};
+//! Marks: which variables of the trail are in a chunk.
+ghost use Rattle.std.specs.Prelude.{◌≡◌, ℕ, ◌*◌, ◌<◌, true, All, pos};
+ghost use Rattle.std.specs.List.{position};
 ghost use Rattle.rules.specs.Literals.{in_range};
-ghost use Rattle.theory.specs.Chunks.{joins as joins-chunk, in_chunk, touches};
+ghost use Rattle.theory.specs.Chunks.{joins as joins-chunk, in_chunk};
 ghost use Rattle.theory.proofs.Trails.{meets};
-ghost use Rattle.memory.specs.Words.{word_at, words_from, FirstWord, mark_at, size, Outside};
-ghost use Rattle.memory.specs.Decode.{literal_at, entry_at, marked, Marked};
-ghost use Rattle.memory.specs.Memories.{trail_in, clause_in, FalsifiedInHand, Framed};
+ghost use Rattle.memory.specs.Words.{word_at, mark_at, Wrote};
+ghost use Rattle.memory.specs.Decode.{literal_at, entry_at, bit, marked_index, marked, Marked};
+ghost use Rattle.memory.specs.Memories.{trail_in, Framed};
 
-use crate::layout::Layout;
+use crate::layout::is_mark;
 use crate::memory::Memory;
-use crate::trail::index_at;
 use weights::weigher::Standing;
 
 impl Memory<'_> {
-    /// Marks the chunk of the literal at the place `root`, and says whether the falsified clause of `k` words in hand touches it.
-    pub(crate) fn mark_touched(&mut self, root: usize, k: usize) -> bool
-        requires rooted { root < self.old.extent.trail }
-        requires falsified { FalsifiedInHand self.old k }
-        ensures touches { result ≡ touches (trail_in self.old) (literal_at self.old.layout.variables self.old.words.now root) (clause_in self.old k) }
-        ensures marked { Marked self.old.layout.variables (trail_in self.old) (in_chunk (literal_at self.old.layout.variables self.old.words.now root) (trail_in self.old)) self.new.words.now }
-        ensures frame { Framed (5 * self.old.layout.variables) self.old.layout.variables self.old self.new }
-    {
-        let clause = self.layout.clause(0);
-        self.mark_chunk(root);
-        self.any_marked(clause, k)
-    }
-
     /// Marks the chunk of the literal at the place `root` of the trail, and nothing else.
     pub(crate) fn mark_chunk(&mut self, root: usize)
         requires { root < self.old.extent.trail }
         ensures marked { Marked self.old.layout.variables (trail_in self.old) (in_chunk (literal_at self.old.layout.variables self.old.words.now root) (trail_in self.old)) self.new.words.now }
         ensures frame { Framed (5 * self.old.layout.variables) self.old.layout.variables self.old self.new }
     {
-        clear_marks(self.words, self.layout);
+        self.clear_marks();
         // The literals read and the marks written are of one slice, so the literals go by their places.
         for place in 0..self.extent.trail {
             let x = self.variable(place);
             let joined = self.joins(root, place);
-            self.layout.set_mark(self.words, x, joined);
+            self.set_mark(x, joined);
         }
     }
 
@@ -49,40 +36,55 @@ impl Memory<'_> {
             (entry_at self.now.layout.variables self.now.words.now place) }
     {
         let x = self.variable(place);
-        if self.layout.standing(self.words, x) == Standing::Implied {
-            self.any_marked(self.layout.reason(x), self.reason_count(x))
+        if self.standing(x) == Standing::Implied {
+            self.any_marked(self.reason(x))
         } else {
-            self.layout.literal(self.words, root) == self.layout.literal(self.words, place)
+            self.literal(root) == self.literal(place)
         }
     }
 
-    /// Whether one of `k` words from `base` on has its variable marked.
-    fn any_marked(&self, base: usize, k: usize) -> bool
-        requires within { base + k ≤ length self.now.words.now }
-        requires ranged { (i : ℕ) → i < k → in_range self.now.layout.variables (word_at self.now.words.now (base + i)) ≡ true }
-        ensures { result ≡ meets (marked self.now.layout.variables self.now.words.now) (words_from self.now.words.now base k) }
+    /// Whether one of the literals, which are in range, has its variable marked.
+    // That they are in range is asked of the list: of a part of the words it follows from what the memory knows of its words.
+    pub(crate) fn any_marked(&self, literals: &[i32]) -> bool
+        requires { All (λ l. in_range self.now.layout.variables l ≡ true) literals.now }
+        ensures { result ≡ meets (marked self.now.layout.variables self.now.words.now) literals.now }
     {
-        self.first_marked(base, k).is_some()
+        self.first_marked(literals).is_some()
     }
 
-    /// The number, from 0, of the first of `k` words from `base` on whose variable is marked, if there is one.
-    pub(crate) fn first_marked(&self, base: usize, k: usize) -> Option<usize>
-        requires within { base + k ≤ length self.now.words.now }
-        requires ranged { (i : ℕ) → i < k → in_range self.now.layout.variables (word_at self.now.words.now (base + i)) ≡ true }
-        ensures { FirstWord (marked self.now.layout.variables self.now.words.now) self.now.words.now base k result }
+    /// The number, from 0, of the first literal in range whose variable is marked, if there is one.
+    pub(crate) fn first_marked(&self, literals: &[i32]) -> Option<usize>
+        requires { All (λ l. in_range self.now.layout.variables l ≡ true) literals.now }
+        ensures { result ≡ position (marked self.now.layout.variables self.now.words.now) literals.now }
     {
-        (0..k).find(|i| {
-            let x = index_at(self.words, self.layout, base + *i);
-            self.layout.marked(self.words, x)
-        })
+        literals
+            .iter()
+            .position(|literal| self.is_marked(self.layout.index_of(*literal)))
     }
-}
 
-/// Takes every mark away.
-pub(crate) fn clear_marks(words: &mut [i32], layout: Layout)
-    requires { size layout.variables layout.slots ≤ length words.old }
-    ensures cleared { (x : ℕ) → x < layout.variables → word_at words.new (mark_at layout.variables x) ≡ pos 0 }
-    ensures outside { Outside (5 * layout.variables) layout.variables words.old words.new }
-{
-    words[5 * layout.variables..6 * layout.variables].fill(0);
+    /// Whether a variable is marked.
+    pub(crate) fn is_marked(&self, x: usize) -> bool
+        requires { x < self.now.layout.variables }
+        ensures { result ≡ marked_index self.now.layout.variables self.now.words.now x }
+    {
+        is_mark(self.words[self.layout.mark(x)])
+    }
+
+    /// Marks a variable, or takes its mark away.
+    pub(crate) fn set_mark(&mut self, x: usize, mark: bool)
+        requires { x < self.old.layout.variables }
+        ensures wrote { Wrote (mark_at self.old.layout.variables x) (bit mark) self.old.words.now self.new.words.now }
+        ensures frame { Framed (5 * self.old.layout.variables) self.old.layout.variables self.old self.new }
+    {
+        self.words[self.layout.mark(x)] = i32::from(mark);
+    }
+
+    /// Takes every mark away.
+    pub(crate) fn clear_marks(&mut self)
+        ensures cleared { (x : ℕ) → x < self.old.layout.variables → word_at self.new.words.now (mark_at self.old.layout.variables x) ≡ pos 0 }
+        ensures frame { Framed (5 * self.old.layout.variables) self.old.layout.variables self.old self.new }
+    {
+        let n = self.layout.variables;
+        self.words[5 * n..6 * n].fill(0);
+    }
 }

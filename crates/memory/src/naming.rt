@@ -1,18 +1,15 @@
 //! Naming: which assumed literals a conflict rests on.
-ghost use Rattle.std.specs.Prelude.{◌≡◌, ℕ, ◌+◌, ◌*◌, ◌<◌, ◌≤◌, true, ◌&&◌, ◌||◌, ◌⊎◌, length, ℤ, filter};
+ghost use Rattle.std.specs.Prelude.{◌≡◌, ℕ, ◌+◌, ◌*◌, ◌<◌, ◌≤◌, true, ◌&&◌, ◌||◌, ◌⊎◌, length, ℤ, All, filter};
 ghost use Rattle.rules.specs.Literals.{in_range, has};
 ghost use Rattle.theory.specs.Trail.{assumed_literals};
 ghost use Rattle.theory.specs.Chunks.{in_chunk, touches};
-ghost use Rattle.memory.specs.Words.{word_at, words_from, row_at, size, Outside};
+ghost use Rattle.memory.specs.Words.{word_at, words_from, row_at};
 ghost use Rattle.memory.specs.Decode.{stands, entry_at, marked_index, marked};
 ghost use Rattle.memory.specs.Analysis.{names_index};
 ghost use Rattle.memory.specs.Naming.{with_reason, marks_member};
 ghost use Rattle.memory.specs.Memories.{trail_in, clause_in, FalsifiedInHand, Framed};
 
-use crate::layout::{Layout, index_of};
-use crate::marks::clear_marks;
 use crate::memory::Memory;
-use crate::trail::index_at;
 use rules::literal::Value;
 use weights::weigher::Standing;
 
@@ -25,9 +22,8 @@ impl Memory<'_> {
             ≡ filter (λ r. touches (trail_in self.old) r (clause_in self.old k)) (assumed_literals (trail_in self.old)) }
         ensures frame { Framed (5 * self.old.layout.variables) self.old.layout.variables self.old self.new }
     {
-        let words = &mut *self.words;
-        clear_marks(words, self.layout);
-        mark_variables(words, self.layout, self.layout.clause(0), k);
+        self.clear_marks();
+        self.mark_variables(self.layout.clause(0), k);
         self.mark_reasons();
     }
 
@@ -37,6 +33,7 @@ impl Memory<'_> {
             ≡ marks_member (marked_index self.old.layout.variables self.old.words.now) (in_chunk r (trail_in self.old)) (trail_in self.old) }
         ensures frame { Framed (5 * self.old.layout.variables) self.old.layout.variables self.old self.new }
     {
+        // Each turn reads the marks that the one before left.
         for place in (0..self.extent.trail).rev() {
             self.mark_reason(place);
         }
@@ -52,8 +49,7 @@ impl Memory<'_> {
         let x = self.variable(place);
         if self.is_marked_as(x, Standing::Implied) {
             let count = self.reason_count(x);
-            let reason = self.layout.reason(x);
-            mark_variables(self.words, self.layout, reason, count);
+            self.mark_variables(self.layout.reason(x), count);
         }
     }
 
@@ -63,7 +59,7 @@ impl Memory<'_> {
         ensures { result ≡ has (filter (marked self.now.layout.variables self.now.words.now) (assumed_literals (trail_in self.now))) literal }
     {
         self.value(literal) == Value::True
-            && self.is_marked_as(index_of(literal), Standing::Assumed)
+            && self.is_marked_as(self.layout.index_of(literal), Standing::Assumed)
     }
 
     /// Whether a variable is marked and its literal stands so.
@@ -71,23 +67,22 @@ impl Memory<'_> {
         requires { x < self.now.layout.variables }
         ensures { result ≡ (marked_index self.now.layout.variables self.now.words.now x && stands (word_at self.now.words.now (row_at self.now.layout.variables x 0)) standing) }
     {
-        self.layout.marked(self.words, x) && self.layout.standing(self.words, x) == standing
+        self.is_marked(x) && self.standing(x) == standing
     }
-}
 
-/// Marks the variables of `k` words from `base` on, which are no marks themselves.
-fn mark_variables(words: &mut [i32], layout: Layout, base: usize, k: usize)
-    requires big { size layout.variables layout.slots ≤ length words.old }
-    requires within { base + k ≤ length words.old }
-    requires apart { (base + k ≤ 5 * layout.variables) ⊎ (6 * layout.variables ≤ base) }
-    requires ranged { (i : ℕ) → i < k → in_range layout.variables (word_at words.old (base + i)) ≡ true }
-    ensures marked { (x : ℕ) → marked_index layout.variables words.new x
-        ≡ (marked_index layout.variables words.old x || names_index (words_from words.old base k) x) }
-    ensures outside { Outside (5 * layout.variables) layout.variables words.old words.new }
-{
-    // The literals read and the marks written are of one slice, so the literals go by their numbers.
-    for i in 0..k {
-        let x = index_at(words, layout, base + i);
-        layout.set_mark(words, x, true);
+    /// Marks the variables of `k` words from `base` on, which are no marks themselves.
+    fn mark_variables(&mut self, base: usize, k: usize)
+        requires within { base + k ≤ length self.old.words.now }
+        requires apart { (base + k ≤ 5 * self.old.layout.variables) ⊎ (6 * self.old.layout.variables ≤ base) }
+        requires ranged { All (λ l. in_range self.old.layout.variables l ≡ true) (words_from self.old.words.now base k) }
+        ensures marked { (x : ℕ) → marked_index self.old.layout.variables self.new.words.now x
+            ≡ (marked_index self.old.layout.variables self.old.words.now x || names_index (words_from self.old.words.now base k) x) }
+        ensures frame { Framed (5 * self.old.layout.variables) self.old.layout.variables self.old self.new }
+    {
+        // The literals read and the marks written are of one slice, so the literals go by their numbers.
+        for i in 0..k {
+            let x = self.layout.index_of(self.words[base + i]);
+            self.set_mark(x, true);
+        }
     }
 }

@@ -6,11 +6,7 @@ ghost use Rattle.memory.specs.Memories.{trail_in, position_in, clause_in, Keeps}
 ghost use Rattle.memory.specs.Plans.{ConflictInHand};
 ghost use Rattle.memory.specs.Repair.{Repairs};
 
-use crate::layout::Extent;
 use crate::memory::Memory;
-use crate::reasons::imply;
-use crate::slots::learn;
-use crate::undo::undo_marked;
 
 impl Memory<'_> {
     /// Repairs the conflict with the falsified clause of `k` words in hand, which touches the chunk of the decision at the place `root`.
@@ -25,17 +21,11 @@ impl Memory<'_> {
         ensures keeps { Keeps self.old self.new }
         ensures cleared { scratch.new ≡ replicate (length scratch.old) 0 }
     {
-        let layout = self.layout;
-        let Extent { trail, slots, .. } = self.extent;
         let left = self.analyse(root, k, scratch);
-        let at = self.first_marked(layout.clause(0), left).unwrap();
-        // Until the clause is learned the words stand for no position, so what changes them takes words and layout.
-        let words = &mut *self.words;
-        let rest = undo_marked(words, layout, trail);
-        imply(words, layout, rest, left, at);
-        let filled = learn(words, layout, slots, left);
-        self.extent.trail = rest + 1;
-        self.extent.slots = filled;
-        trail - rest
+        let at = self.first_marked(self.clause(left)).unwrap();
+        let undone = self.undo_marked();
+        self.imply(left, at);
+        self.learn(left);
+        undone
     }
 }

@@ -1,7 +1,7 @@
 //! What calls of a session answer: verdicts, reports and refusals.
 ghost use Rattle.std.specs.Prelude.{◌≡◌, ◌+◌, ◌*◌, ◌<◌, ◌≤◌};
 ghost use Rattle.theory.specs.Run.{no_steps, one_step, added};
-ghost use Rattle.memory.specs.Reports.{verdict_of, verdict_number, has_ended, refusal_number, kind_of, report_of, Sized};
+ghost use Rattle.memory.specs.Reports.{verdict_of, verdict_number, has_ended, refusal_number, kind_of, undone_by, report_of, Sized};
 ghost use Rattle.memory.specs.declared.report.Verdict.TheVariants as verdict;
 
 /// What a search has come to.
@@ -67,13 +67,13 @@ impl From<Refusal> for u8 {
     }
 }
 
-/// The kinds of a step.
+/// The kinds of a step. A conflict's says how many literals it undid.
 #[derive(Clone, Copy)]
 pub(crate) enum Kind {
     Assumed,
     Decided,
     Implied,
-    Conflict,
+    Conflict { undone: usize },
 }
 
 /// What a granted run did: its verdict, its steps in all and by kind, and how many literals its conflict steps undid.
@@ -113,23 +113,26 @@ impl Report {
         Report { verdict, ..self }
     }
 
-    /// Counts one step more, of this kind, that undid so many literals.
-    pub(crate) fn count(&mut self, kind: Kind, undone: usize)
+    /// Counts one step more, of this kind.
+    pub(crate) fn count(&mut self, kind: Kind)
         requires sized { Sized self.old }
         requires room { self.old.steps < 4294967295 }
-        requires few { undone ≤ 1000 }
-        ensures report { report_of self.new ≡ added (report_of self.old) (one_step (kind_of kind) undone) }
+        requires few { undone_by kind ≤ 1000 }
+        ensures report { report_of self.new ≡ added (report_of self.old) (one_step (kind_of kind) (undone_by kind)) }
         ensures sized { Sized self.new }
         ensures steps { self.new.steps ≡ self.old.steps + 1 }
     {
         self.verdict = Verdict::Paused;
         self.steps += 1;
-        self.undone += undone as u64;
+        // A match, not a table of functions: the kinds are four and closed, and one carries a number.
         match kind {
             Kind::Assumed => self.assumed += 1,
             Kind::Decided => self.decided += 1,
             Kind::Implied => self.implied += 1,
-            Kind::Conflict => self.conflicts += 1,
+            Kind::Conflict { undone } => {
+                self.conflicts += 1;
+                self.undone += undone as u64;
+            }
         }
     }
 }

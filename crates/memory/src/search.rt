@@ -5,8 +5,9 @@ ghost use Rattle.theory.specs.Events.{Event};
 ghost use Rattle.theory.specs.Promise.{Promise};
 ghost use Rattle.memory.specs.Guides.{guided};
 ghost use Rattle.memory.specs.Memories.{Keeps};
+ghost use Rattle.memory.specs.Searches.{search_in};
 ghost use Rattle.memory.specs.Reports.{reported_as, refusal_of};
-ghost use Rattle.memory.specs.Sessions.{searched, search_state, found, settled_state, Lived, Promised, run_refusal, scratch_after};
+ghost use Rattle.memory.specs.Sessions.{search_state, settled_state, Lived, Promised, run_refusal, scratch_after};
 
 use crate::guide::Guide;
 use crate::report::{Refusal, Report};
@@ -16,6 +17,7 @@ use weights::weigher::Weigher;
 
 impl<'a> Search<'a> {
     /// Runs the search for at most so many steps, and keeps what it answers. A refused call changes nothing else.
+    // Its three guides are the caller's, and are one struct from here on.
     pub fn run<S: Source, W: Weigher>(
         &mut self,
         limit: u32,
@@ -24,15 +26,15 @@ impl<'a> Search<'a> {
         weigher: &W,
         scratch: &mut [u8],
     ) -> Result<Report, Refusal>
-        ensures promised { Promised self.old.memory.layout.variables self.old.memory.layout.slots (search_state self.old)
+        ensures promised { Promised self.old.progress.memory.layout.variables self.old.progress.memory.layout.slots (search_state self.old)
             (running limit (guided (S.meaning source.now) preferences.now W.Weight.at_most W.Weight.zero W.Weight.plus (W.weight weigher.now)) (length scratch.old))
             (reported_as result) (search_state self.new) }
         ensures answer { self.new.answer ≡ Some result }
-        ensures refusal { refusal_of result ≡ run_refusal self.old.memory.layout.variables (S.meaning source.now).count (length scratch.old) }
+        ensures refusal { refusal_of result ≡ run_refusal self.old.progress.memory.layout.variables (S.meaning source.now).count (length scratch.old) }
         ensures unchanged { OnErr result (self.new ≡ record self.old { answer = Some result }) }
-        ensures scratch { scratch.new ≡ scratch_after (run_refusal self.old.memory.layout.variables (S.meaning source.now).count (length scratch.old)) scratch.old }
-        ensures layout { self.new.memory.layout ≡ self.old.memory.layout }
-        ensures size { length self.new.memory.words.now ≡ length self.old.memory.words.now }
+        ensures scratch { scratch.new ≡ scratch_after (run_refusal self.old.progress.memory.layout.variables (S.meaning source.now).count (length scratch.old)) scratch.old }
+        ensures layout { self.new.progress.memory.layout ≡ self.old.progress.memory.layout }
+        ensures size { length self.new.progress.memory.words.now ≡ length self.old.progress.memory.words.now }
     {
         let guide = Guide {
             source,
@@ -51,57 +53,48 @@ impl<'a> Search<'a> {
         guide: &Guide<S, W>,
         scratch: &mut [u8],
     ) -> Result<Report, Refusal>
-        ensures promised { Promised self.old.memory.layout.variables self.old.memory.layout.slots (search_state self.old)
+        ensures promised { Promised self.old.progress.memory.layout.variables self.old.progress.memory.layout.slots (search_state self.old)
             (running limit (guided (S.meaning guide.now.source.now) guide.now.preferences.now W.Weight.at_most W.Weight.zero W.Weight.plus (W.weight guide.now.weigher.now)) (length scratch.old))
             (reported_as result) (search_state self.new) }
-        ensures refusal { refusal_of result ≡ run_refusal self.old.memory.layout.variables (S.meaning guide.now.source.now).count (length scratch.old) }
+        ensures refusal { refusal_of result ≡ run_refusal self.old.progress.memory.layout.variables (S.meaning guide.now.source.now).count (length scratch.old) }
         ensures unchanged { OnErr result (self.new ≡ self.old) }
-        ensures scratch { scratch.new ≡ scratch_after (run_refusal self.old.memory.layout.variables (S.meaning guide.now.source.now).count (length scratch.old)) scratch.old }
-        ensures keeps { Keeps self.old.memory self.new.memory }
+        ensures scratch { scratch.new ≡ scratch_after (run_refusal self.old.progress.memory.layout.variables (S.meaning guide.now.source.now).count (length scratch.old)) scratch.old }
+        ensures keeps { Keeps self.old.progress.memory self.new.progress.memory }
     {
-        if guide.source.variables() as usize != self.memory.layout.variables {
+        if guide.source.variables() as usize != self.progress.memory.layout.variables {
             return Err(Refusal::OtherCount);
         }
-        if scratch.len() < self.memory.layout.variables {
+        if scratch.len() < self.progress.memory.layout.variables {
             return Err(Refusal::ShortScratch);
         }
         scratch.fill(0);
-        if self.verdict.has_ended() {
-            return Ok(Report::without_steps(self.verdict));
+        if self.progress.verdict.has_ended() {
+            return Ok(Report::without_steps(self.progress.verdict));
         }
-        let ran = self.memory.drive(limit, guide, scratch);
-        self.verdict = ran.report.verdict;
-        self.failed = ran.failed;
-        Ok(ran.report)
+        Ok(self.progress.drive(limit, guide, scratch))
     }
 
     /// What the latest run answered; nothing before the first.
     pub fn answer(&self) -> Option<Result<Report, Refusal>>
         ensures answer { result ≡ self.now.answer }
-        ensures promise { (h : List Event) → Lived self.now.memory.layout.variables self.now.memory.layout.slots h (search_state self.now)
-            → Promise self.now.memory.layout.variables self.now.memory.layout.slots h (search_state self.now) }
+        ensures promise { (h : List Event) → Lived self.now.progress.memory.layout.variables self.now.progress.memory.layout.slots h (search_state self.now)
+            → Promise self.now.progress.memory.layout.variables self.now.progress.memory.layout.slots h (search_state self.now) }
     {
         self.answer
     }
 
     /// Settles the search.
     pub fn settle(self) -> Settled<'a>
-        ensures search { found result ≡ searched self.entry }
-        ensures promised { Promised self.entry.memory.layout.variables self.entry.memory.layout.slots (search_state self.entry) settling done (settled_state result) }
-        ensures layout { result.memory.layout ≡ self.entry.memory.layout }
-        ensures verdict { result.verdict ≡ self.entry.verdict }
-        ensures size { length result.memory.words.now ≡ length self.entry.memory.words.now }
+        ensures search { search_in result.progress ≡ search_in self.entry.progress }
+        ensures promised { Promised self.entry.progress.memory.layout.variables self.entry.progress.memory.layout.slots (search_state self.entry) settling done (settled_state result) }
+        ensures layout { result.progress.memory.layout ≡ self.entry.progress.memory.layout }
+        ensures verdict { result.progress.verdict ≡ self.entry.progress.verdict }
+        ensures size { length result.progress.memory.words.now ≡ length self.entry.progress.memory.words.now }
     {
         let Search {
-            memory,
-            verdict,
-            failed,
+            progress,
             answer: _,
         } = self;
-        Settled {
-            memory,
-            verdict,
-            failed,
-        }
+        Settled { progress }
     }
 }

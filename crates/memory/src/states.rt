@@ -1,14 +1,13 @@
 //! The states of a session. Each holds the session's words, and a call that leads on takes the one state and gives the other.
-ghost use Rattle.std.specs.Prelude.{◌≡◌, ◌*◌, ◌<◌, ◌≤◌, true, length};
+ghost use Rattle.std.specs.Prelude.{◌≡◌, ◌*◌, ◌≤◌, true, length};
 ghost use Rattle.std.specs.List.{list_all};
-ghost use Rattle.std.specs.Option.{ForSome};
 ghost use Rattle.rules.specs.Literals.{in_range};
 ghost use Rattle.memory.specs.Words.{size};
 ghost use Rattle.memory.specs.Decode.{assumptions_of};
 
 use crate::layout::Layout;
-use crate::memory::Memory;
-use crate::report::{Refusal, Report, Verdict};
+use crate::progress::Progress;
+use crate::report::{Refusal, Report};
 
 /// A session between searches, over lent words. It ends only by `close`.
 pub struct Idle<'a> {
@@ -22,17 +21,11 @@ pub struct Idle<'a> {
 
 /// A search. Its values cannot be read before it is settled.
 pub struct Search<'a> {
-    pub(crate) memory: Memory<'a>,
-    pub(crate) verdict: Verdict,
-    pub(crate) failed: Option<usize>,
+    pub(crate) progress: Progress<'a>,
     pub(crate) answer: Option<Result<Report, Refusal>>,
-    ghost denied: { ForSome failed (λ number. number < memory.extent.assumptions) },
 }
 
 /// A search at rest.
 pub struct Settled<'a> {
-    pub(crate) memory: Memory<'a>,
-    pub(crate) verdict: Verdict,
-    pub(crate) failed: Option<usize>,
-    ghost denied: { ForSome failed (λ number. number < memory.extent.assumptions) },
+    pub(crate) progress: Progress<'a>,
 }

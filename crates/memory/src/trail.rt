@@ -1,43 +1,42 @@
-//! The trail: the variable at a place, and one literal more.
-ghost use Rattle.std.specs.Prelude.{◌≡◌, ◌+◌, ◌<◌, ◌≤◌, true, ◌≢◌, [], length};
-ghost use Rattle.rules.specs.Literals.{in_range};
-ghost use Rattle.theory.specs.Trail.{free};
+//! The trail: what stands at a place, and one literal more.
+ghost use Rattle.std.specs.Prelude.{◌≡◌, ℕ, ◌<◌, ◌≤◌};
+ghost use Rattle.theory.specs.Trail.{Placeable};
 ghost use Rattle.theory.specs.Chunks.{standing};
 ghost use Rattle.theory.specs.Search.{placed};
-ghost use Rattle.memory.specs.Words.{word_at, index_of, size, Laid};
-ghost use Rattle.memory.specs.Decode.{as_entry, standing_word, literal_at, entry_at, reason_count};
-ghost use Rattle.memory.specs.Memories.{trail_in, position_in, Keeps};
+ghost use Rattle.memory.specs.Words.{word_at, index_of, row_at};
+ghost use Rattle.memory.specs.Decode.{as_entry, standing_of, standing_word, literal_at, entry_at, reason_of};
+ghost use Rattle.memory.specs.Memories.{trail_in, position_in, clause_in, Keeps};
 
-use crate::layout::{Layout, index_of};
+use crate::layout::{standing_of, word_of};
 use crate::memory::Memory;
 use weights::weigher::Standing;
 
-/// The index of the variable of a word that is a literal in range.
-pub(crate) fn index_at(words: &[i32], layout: Layout, at: usize) -> usize
-    requires within { at < length words.now }
-    requires ranged { in_range layout.variables (word_at words.now at) ≡ true }
-    ensures is { result ≡ index_of (word_at words.now at) }
-    ensures below { result < layout.variables }
-{
-    index_of(words[at])
-}
-
 impl Memory<'_> {
-    /// Places a free literal that no clause implies.
+    /// Places a literal, with the reason that its variable's row holds where it is implied. The clause in hand stays.
     pub(crate) fn place(&mut self, literal: i32, standing: Standing)
-        requires unassigned { free self.old.layout.variables (trail_in self.old) literal ≡ true }
-        requires known { standing ≢ Standing.Implied }
-        ensures placed { position_in self.new ≡ placed (position_in self.old) (as_entry (standing_word standing) literal []) }
+        requires { Placeable self.old.layout.variables (trail_in self.old)
+            (as_entry (standing_word standing) literal (reason_of self.old.layout.variables self.old.words.now (index_of literal))) }
+        ensures placed { position_in self.new
+            ≡ placed (position_in self.old) (as_entry (standing_word standing) literal (reason_of self.old.layout.variables self.old.words.now (index_of literal))) }
+        ensures clause { (k : ℕ) → k ≤ self.old.layout.variables → clause_in self.new k ≡ clause_in self.old k }
         ensures keeps { Keeps self.old self.new }
     {
-        lay(
-            self.words,
-            self.layout,
-            self.extent.trail,
-            literal,
-            standing,
-        );
-        self.extent.trail += 1;
+        let layout = self.layout;
+        let len = self.extent.trail;
+        let x = layout.index_of(literal);
+        let words = &mut *self.words;
+        words[layout.trail(len)] = literal;
+        words[layout.value(x)] = literal;
+        words[layout.row(x, 0)] = word_of(standing);
+        self.extent.trail = len + 1;
+    }
+
+    /// The literal at a place of the trail.
+    pub(crate) fn literal(&self, place: usize) -> i32
+        requires { place < self.now.extent.trail }
+        ensures { result ≡ literal_at self.now.layout.variables self.now.words.now place }
+    {
+        self.words[self.layout.trail(place)]
     }
 
     /// The index of the variable at a place of the trail.
@@ -46,7 +45,15 @@ impl Memory<'_> {
         ensures is { result ≡ index_of (literal_at self.now.layout.variables self.now.words.now place) }
         ensures below { result < self.now.layout.variables }
     {
-        index_at(self.words, self.layout, 2 * self.layout.variables + place)
+        self.layout.index_of(self.literal(place))
+    }
+
+    /// How a variable's literal stands, by its row.
+    pub(crate) fn standing(&self, x: usize) -> Standing
+        requires { x < self.now.layout.variables }
+        ensures { result ≡ standing_of (word_at self.now.words.now (row_at self.now.layout.variables x 0)) }
+    {
+        standing_of(self.words[self.layout.row(x, 0)])
     }
 
     /// How the literal at a place of the trail came to stand there.
@@ -54,27 +61,6 @@ impl Memory<'_> {
         requires { place < self.now.extent.trail }
         ensures { result ≡ standing (entry_at self.now.layout.variables self.now.words.now place) }
     {
-        self.layout.standing(self.words, self.variable(place))
+        self.standing(self.variable(place))
     }
-
-    /// How many other literals the reason of a variable has.
-    pub(crate) fn reason_count(&self, x: usize) -> usize
-        requires { x < self.now.layout.variables }
-        ensures { result ≡ reason_count self.now.layout.variables self.now.words.now x }
-    {
-        self.layout.count(self.words, x, 1)
-    }
-}
-
-/// Lays a literal on the trail by its three words: at the trail's end, as its variable's value, and in its row how it stands.
-pub(crate) fn lay(words: &mut [i32], layout: Layout, len: usize, literal: i32, standing: Standing)
-    requires big { size layout.variables layout.slots ≤ length words.old }
-    requires room { len < layout.variables }
-    requires ranged { in_range layout.variables literal ≡ true }
-    ensures { Laid layout.variables len literal (standing_word standing) words.old words.new }
-{
-    let x = index_of(literal);
-    layout.set_literal(words, len, literal);
-    layout.set_value(words, x, literal);
-    layout.set_standing(words, x, standing);
 }

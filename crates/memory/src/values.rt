@@ -1,24 +1,30 @@
 //! The value of a literal.
-ghost use Rattle.std.specs.Prelude.{◌≡◌, suc, ◌<◌, ◌≤◌, true, length, pos};
+ghost use Rattle.std.specs.Prelude.{◌≡◌, suc, ◌<◌, true, pos};
 ghost use Rattle.rules.specs.Literals.{in_range};
 ghost use Rattle.rules.specs.Values.{value_in};
-ghost use Rattle.theory.specs.Trail.{on};
-ghost use Rattle.memory.specs.Words.{word_at, size};
+ghost use Rattle.theory.specs.Trail.{on, valuation};
+ghost use Rattle.memory.specs.Words.{word_at};
 ghost use Rattle.memory.specs.Decode.{open_index};
 ghost use Rattle.memory.specs.Memories.{trail_in};
 
-use crate::layout::Layout;
 use crate::memory::Memory;
 use rules::literal::{Value, value_of};
 
 impl Memory<'_> {
+    /// The values of the variables, each its literal that is true, or 0.
+    pub(crate) fn values(&self) -> &[i32]
+        ensures { result.now ≡ valuation self.now.layout.variables (trail_in self.now) }
+    {
+        let n = self.layout.variables;
+        &self.words[3 * n..4 * n]
+    }
+
     /// What a literal in range is on the trail.
     pub(crate) fn value(&self, literal: i32) -> Value
         requires { in_range self.now.layout.variables literal ≡ true }
         ensures { result ≡ value_in (on (trail_in self.now)) literal }
     {
-        let n = self.layout.variables;
-        value_of(literal, &self.words[3 * n..4 * n])
+        value_of(literal, self.values())
     }
 
     /// What the assumption of a number, from 0, is on the trail.
@@ -34,14 +40,14 @@ impl Memory<'_> {
         requires { index < self.now.layout.variables }
         ensures { result ≡ on (trail_in self.now) (pos (suc index)) }
     {
-        self.layout.value(self.words, index) > 0
+        self.words[self.layout.value(index)] > 0
     }
-}
 
-/// Whether a variable has no value.
-pub(crate) fn is_open(words: &[i32], layout: Layout, x: usize) -> bool
-    requires { (size layout.variables layout.slots ≤ length words.now) × (x < layout.variables) }
-    ensures { result ≡ open_index layout.variables words.now x }
-{
-    layout.value(words, x) == 0
+    /// Whether a variable has no value.
+    pub(crate) fn is_open(&self, x: usize) -> bool
+        requires { x < self.now.layout.variables }
+        ensures { result ≡ open_index self.now.layout.variables self.now.words.now x }
+    {
+        self.words[self.layout.value(x)] == 0
+    }
 }

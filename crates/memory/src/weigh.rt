@@ -18,10 +18,10 @@ impl Memory<'_> {
     {
         let start = 2 * self.layout.variables;
         let trail = &self.words[start..start + self.extent.trail];
-        // A plain loop: each marked member's answer is added as it comes, the oldest first.
+        // A plain loop, by a rule of the project: each marked member's answer is added as it comes, the oldest first.
         let mut sum = W::Weight::zero();
         for (place, literal) in trail.iter().enumerate() {
-            if self.layout.marked(self.words, self.variable(place)) {
+            if self.is_marked(self.variable(place)) {
                 let standing = self.standing_at(place);
                 sum = sum.plus(weigher.weigh(Member {
                     literal: *literal,

@@ -25,7 +25,7 @@ use weights::weighers::ByStanding;
 const VARIABLES: u32 = 8;
 
 /// The same, for places in a row.
-const COUNT: usize = 8;
+const COUNT: usize = VARIABLES as usize;
 
 /// How many learned clauses a search can store.
 const SLOTS: u32 = 2;
@@ -119,6 +119,7 @@ fn run(rt: &HostRuntime) -> anyhow::Result<()> {
 
 /// The queue was empty exactly if the worker moved first; the wakeup came before the sleep exactly if the worker moved last;
 /// and with the lock the worker's two steps follow one another.
+// A program stands by itself, with the rules of its pool: a crate for two such functions is no plainer.
 fn fill_clauses(book: &mut ClauseBook) -> Result<(), Refusal> {
     book.add(&[-5, 1])?;
     book.add(&[-1, 5])?;
@@ -129,7 +130,6 @@ fn fill_clauses(book: &mut ClauseBook) -> Result<(), Refusal> {
 }
 
 /// Each of the two takes at most two of the four steps.
-// Each program stands by itself, with the rules of its pool.
 fn fill_groups(book: &mut GroupBook) -> Result<(), Refusal> {
     book.add(2, &[1, 2, 3, 4])?;
     book.add(2, &[-1, -2, -3, -4])
@@ -193,11 +193,7 @@ fn outcome_of(settled: &Settled) -> Outcome {
 fn each_variable<F: Fn(i32) -> Result<bool, report::Refusal>>(tell: F) -> [bool; COUNT]
     requires { F.IsAlwaysCallable tell }
 {
-    let mut told = [false; COUNT];
-    for (variable, place) in (1..=VARIABLES as i32).zip(told.iter_mut()) {
-        *place = tell(variable).unwrap_or(false);
-    }
-    told
+    std::array::from_fn(|place| tell(place as i32 + 1).unwrap_or(false))
 }
 
 fn print_finding(rt: &HostRuntime, title: &str, finding: &Finding) -> io::Result<()> {

@@ -1,36 +1,41 @@
-use Rattle.std.proofs.Common.{◌≡◌, ◌+◌, true, false, sym, ap, ◌∙◌, subst, arith, rules}
+use Rattle.std.proofs.Common.{◌≡◌, ◌<◌, ◌≤◌, Bool, true, false, not, length, get_or, ℤ, pos, w32, SFits, to_z, of_z, refl, ap, arith, rules}
+use Rattle.std.proofs.lemmas.Int.{to_z-of_z}
 use Rattle.rules.specs.Literals.{same}
-use Rattle.memory.specs.Words.{word_at, Wrote}
-use Rattle.memory.proofs.Implying.{Copied, copied_none, copied_skip, copied_keep}
+use Rattle.theory.specs.Conflict.{others_of}
+use Rattle.memory.proofs.Implying.{room_left, copied_add, copied_skip}
 use Rattle.memory.proofs.reasons.copy_others.Goals as goal
-use Rattle.memory.proofs.reasons.copy_others.Goals.{then-words-from, else-words-from}
+use Rattle.memory.proofs.reasons.copy_others.Goals.{then-other-literal, else-other-literal}
 
-pub loop-i-init : goal.loop-i-init
-loop-i-init c = copied_none _ _ _ _ _ c.requires.among.0
+pub bounds-room-count : goal.bounds-room-count
+bounds-room-count c =
+    let i = c.loop-other.invariant in
+    let l = to_z w32 (of_z w32 c.args.literal) in
+    let ls = c.args.clause.now in
+    let q : same (get_or ls c.loop-other.other-index (pos 0)) l ≡ false = search rules in
+    let r = room_left (λ k. not (same k l)) ls c.loop-other.other-index c.loop-other-test.true (ap not q) in
+    let long = c.loop-other.auto.room in
+    let h : length (others_of l ls) ≤ length c.args.room.now = search rules in
+    omega (arith, i.count)
 
-pub loop-i-preserved : goal.loop-i-preserved
-loop-i-preserved c =
-    let v = c.loop-i.invariant in
-    let was = c.args.words.now in
-    let ws = c.loop-i.words in
-    let a = c.args.from + c.loop-i.i in
-    let p = c.requires.behind in
-    let h = c.requires.among.1 in
-    let ea = v.out.below a (omega arith) in
-    let eb = v.out.below c.args.at (omega arith) in
-    let t = ap (λ x. same x (word_at ws c.args.at)) ea ∙ ap (same (word_at was a)) eb in
-    elim c.if-words-from.branch [
-      | then-words-from w ↦
-          let q : same (word_at ws a) (word_at ws c.args.at) ≡ false = search rules in
-          let o : Wrote (c.args.to + c.loop-i.count) (word_at was a) ws c.if-words-from.words = rw (← ea) (search rules) in
-          rw w.count-is (copied_keep _ _ _ _ _ _ _ _ v _ c.requires.among.0 h c.loop-i-test.true (sym t ∙ q) o)
-      | else-words-from w ↦
-          let q : same (word_at ws a) (word_at ws c.args.at) ≡ true = search rules in
-          rw (w.words-is, w.count-is) (copied_skip _ _ _ _ _ _ _ _ v (sym t ∙ q))
+pub loop-other-preserved : goal.loop-other-preserved
+loop-other-preserved c =
+    let i = c.loop-other.invariant in
+    let l = to_z w32 (of_z w32 c.args.literal) in
+    let p : ℤ → Bool = λ k. not (same k l) in
+    let ls = c.args.clause.now in
+    let other = get_or ls c.loop-other.other-index (pos 0) in
+    let fits : SFits w32 other = search rules in
+    let inside = c.loop-other-test.true in
+    elim c.if-other-literal.branch [
+      | then-other-literal w ↦
+          let q : same other l ≡ false = search rules in
+          let r = room_left p ls c.loop-other.other-index inside (ap not q) in
+          let long = c.loop-other.auto.room in
+          let h : length (others_of l ls) ≤ length c.args.room.now = search rules in
+          let b : c.loop-other.count < length c.args.room.now = omega (arith, i.count) in
+          let a = copied_add p ls c.loop-other.room c.args.room.now c.loop-other.other-index c.loop-other.count other inside refl (ap not q) i.count b i.copied in
+          rw (w.room-is, w.count-is, to_z-of_z w32 other fits) record { count = a.0; copied = a.1 }
+      | else-other-literal w ↦
+          let q : same other l ≡ true = search rules in
+          rw (w.room-is, w.count-is, copied_skip p ls c.loop-other.other-index inside (ap not q)) i
     ]
-
-pub returns : goal.returns
-returns c =
-    let e : c.loop-i.i ≡ c.args.k = omega arith in
-    let v = subst (λ i. Copied c.args.from c.args.to c.args.k c.args.at i c.loop-i.count c.args.words.now c.loop-i.words) e c.loop-i.invariant in
-    record { copied = v.copied; fewer = v.fewer c.requires.among.1; outside = v.out }

@@ -1,31 +1,20 @@
-use Rattle.std.proofs.Common.{◌+◌, ◌-◌, ◌*◌, ◌<◌, arith}
-use Rattle.memory.proofs.Reading.{part_long}
-use Rattle.memory.proofs.Recalling.{unit_in_hand, falsified_in_hand}
+use Rattle.std.proofs.Common.{◌<◌, arith}
+use Rattle.memory.proofs.Recalling.{many_in_hand, unit_in_hand, falsified_in_hand}
 use Rattle.memory.proofs.memory.Memory.assertion_of.Goals as goal
 
 pub returns-in-Some : goal.returns-in-Some
 returns-in-Some c =
-    let n = c.args.self.now.layout.variables in
-    let ws = c.args.self.now.words.now in
-    let k = c.args.count in
-    let big = c.args.self.now.sound.coherent.big in
-    let few = c.requires.few in
-    let long = part_long ws (4 * n) (4 * n + k - 4 * n) (omega arith) in
+    let m = c.args.self.now in
+    let r = c.requires in
     let found = c.in-Some.ensures in
     let short = found.0 in
-    let h : c.in-Some.open < k = omega arith in (
-      h,
-      unit_in_hand n _ c.args.self.now.extent.trail ws c.args.self.now.sound.coherent k few c.requires.ranged c.requires.asserting (4 * n) (4 * n + k - 4 * n) (4 * n - 3 * n) (omega arith) (omega arith) (omega arith)
-          c.in-Some.open h found.1,
-    )
+    let long = many_in_hand _ m.layout.slots _ _ m.sound.coherent c.args.count r.ranged r.asserting c.clause.result.now c.values.result.now c.clause.ensures c.values.ensures in
+    let h : c.in-Some.open < c.args.count = omega arith in
+    (h, unit_in_hand _ m.layout.slots _ _ m.sound.coherent c.args.count r.ranged r.asserting c.clause.result.now c.values.result.now c.clause.ensures c.values.ensures c.in-Some.open h found.1)
 
 pub returns-in-None : goal.returns-in-None
 returns-in-None c =
-    let n = c.args.self.now.layout.variables in
-    let ws = c.args.self.now.words.now in
-    let k = c.args.count in
-    let big = c.args.self.now.sound.coherent.big in
-    let few = c.requires.few in
-    let long = part_long ws (4 * n) (4 * n + k - 4 * n) (omega arith) in
-    falsified_in_hand n _ c.args.self.now.extent.trail ws c.args.self.now.sound.coherent k few c.requires.ranged c.requires.asserting (4 * n) (4 * n + k - 4 * n) (4 * n - 3 * n) (omega arith) (omega arith) (omega arith)
-    (λ i l. c.in-None.ensures i (omega arith))
+    let m = c.args.self.now in
+    let r = c.requires in
+    let long = many_in_hand _ m.layout.slots _ _ m.sound.coherent c.args.count r.ranged r.asserting c.clause.result.now c.values.result.now c.clause.ensures c.values.ensures in
+    falsified_in_hand _ m.layout.slots _ _ m.sound.coherent c.args.count r.ranged r.asserting c.clause.result.now c.values.result.now c.clause.ensures c.values.ensures (λ i l. c.in-None.ensures i (omega arith))

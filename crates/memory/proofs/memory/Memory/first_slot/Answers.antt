@@ -9,8 +9,8 @@ use Rattle.memory.proofs.Recalling.{recalled, rest_next, or_learned, or_within, 
 use Rattle.memory.proofs.memory.Memory.first_slot.Goals as goal
 use Rattle.memory.proofs.memory.Memory.first_slot.Goals.{in-Unit, in-Other}
 
-pub returns-in-Falsified : goal.returns-in-Falsified
-returns-in-Falsified c =
+pub returns-in-Falsified-clause-first : goal.returns-in-Falsified-clause-first
+returns-in-Falsified-clause-first c =
     let n = c.args.self.now.layout.variables in
     let ws = c.args.self.now.words.now in
     let t = trail_of n c.args.self.now.extent.trail ws in
@@ -18,11 +18,8 @@ returns-in-Falsified c =
     let C = slot_of n ws s in
     let found = learned_at n ws c.loop-s.unit in
     let rest = map (slot_of n ws) (range_with_len (s + 1) (c.args.self.now.extent.slots - (s + 1))) in
-    record {
-      first = sym (recall_falsified t found C rest (is_falsified_kind (status (on t) C) (sym c.in-Falsified.ensures)))
-          ∙ ap (recalled t found) (sym (rest_next (slot_of n ws) s c.args.self.now.extent.slots c.loop-s-test.true)) ∙ c.loop-s.invariant.0;
-      within = c.loop-s-test.true;
-    }
+    sym (recall_falsified t found C rest (is_falsified_kind (status (on t) C) (sym c.in-Falsified.ensures)))
+    ∙ ap (recalled t found) (sym (rest_next (slot_of n ws) s c.args.self.now.extent.slots c.loop-s-test.true)) ∙ c.loop-s.invariant.0
 
 pub loop-s-preserved : goal.loop-s-preserved
 loop-s-preserved c =

@@ -1,19 +1,15 @@
-use Rattle.std.proofs.Common.{◌≡◌, true}
-use Rattle.rules.specs.Literals.{in_range}
-use Rattle.memory.specs.Words.{word_at, clause_at}
-use Rattle.memory.specs.Memories.{trail_in, clause_in}
-use Rattle.memory.proofs.Words.{words_all}
-use Rattle.memory.proofs.Asserting.{unit_placeable}
+use Rattle.std.proofs.Common.{◌+◌, ◌≤◌, sym, ap, ◌∙◌, subst, arith}
+use Rattle.memory.specs.Words.{clause_at}
+use Rattle.memory.specs.Decode.{clause_of}
+use Rattle.memory.proofs.Words.{words_same}
 use Rattle.memory.proofs.memory.Memory.imply.Goals as goal
 
-pub imply-requires-clause-placeable : goal.imply-requires-clause-placeable
-imply-requires-clause-placeable c =
-    let m = c.args.self.now in
-    let n = m.layout.variables in
-    let ws = m.words.now in
-    let k = c.args.count in
-    let u = c.requires in
-    unit_placeable n (trail_in m) (clause_in m k) (words_all (λ l. in_range n l ≡ true) ws (clause_at n 0) k u.ranged) (word_at ws (clause_at n c.args.at)) u.stands
-
-pub invariant_of-self : goal.invariant_of-self
-invariant_of-self c = let m = c.args.self.now in record { sound = c.imply.ensures.places.sound m.extent.assumptions m.extent.slots m.sound }
+pub returns-clause-clause : goal.returns-clause-clause
+returns-clause-clause c =
+    let n = c.args.self.now.layout.variables in
+    let k = c.args.k in
+    let few = c.requires.few in
+    let mid = c.set_reason.new.self in
+    let f = c.set_reason.ensures.frame in
+    c.place.ensures.clause k (subst (λ y. k ≤ y.variables) (sym f.layout) few) ∙ ap (λ y. clause_of y.variables k mid.words.now) f.layout
+    ∙ words_same c.args.self.now.words.now mid.words.now (clause_at n 0) (clause_at n 0) k (λ i h. f.outside.below (clause_at n 0 + i) (omega arith))

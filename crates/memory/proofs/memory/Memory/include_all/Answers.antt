@@ -1,59 +1,37 @@
-use Rattle.std.proofs.Common.{◌≡◌, ◌+◌, ◌-◌, ◌<◌, true, get_or, take, drop, pos, neg_ℤ, sym, ap, ◌∙◌, arith, w32, SFits, to_z, of_z, rules}
+use Rattle.std.proofs.Common.{◌||◌, pos, take, sym, ap, ◌∙◌, add-one, take-suc, w32, SFits, rules, arith}
 use Rattle.std.proofs.lemmas.Int.{to_z-of_z}
-use Rattle.std.proofs.Math.Bool.{or-false}
-use Rattle.theory.specs.Trail.{on}
 use Rattle.memory.specs.Words.{word_at, index_of}
 use Rattle.memory.specs.Decode.{trail_of, marked_index}
-use Rattle.memory.specs.Analysis.{held}
-use Rattle.memory.proofs.Words.{index_range, all_words}
-use Rattle.memory.proofs.Decode.{false_ranged}
-use Rattle.memory.proofs.Counting.{names_more, both_more}
-use Rattle.memory.proofs.Reading.{part_long, part_word}
+use Rattle.memory.specs.Analysis.{held, names_index}
+use Rattle.memory.proofs.Decode.{false_range}
+use Rattle.memory.proofs.Counting.{names_push, both_more}
 use Rattle.memory.proofs.memory.Memory.include_all.Goals as goal
-use Rattle.memory.proofs.memory.Memory.include_all.Goals.{In-loop-literal, After-index_of}
-
-pub loop-literal-init : goal.loop-literal-init
-loop-literal-init c = ((λ x. sym (or-false (held c.args.scratch.now x))), omega arith, omega arith)
-
--- the literal, as a word
-literal : (c : In-loop-literal) → SFits w32 (get_or (take (c.args.base + c.args.k - c.args.base) (drop c.args.base c.args.self.now.words.now)) c.loop-literal.literal-index (pos 0))
-    → (c.loop-literal.literal-index < c.args.k)
-    × (to_z w32 (of_z w32 (get_or (take (c.args.base + c.args.k - c.args.base) (drop c.args.base c.args.self.now.words.now)) c.loop-literal.literal-index (pos 0)))
-    ≡ word_at c.args.self.now.words.now (c.args.base + c.loop-literal.literal-index))
-literal c fits =
-    let ws = c.args.self.now.words.now in
-    let m = c.args.base + c.args.k - c.args.base in
-    let i = c.loop-literal.literal-index in
-    let within = c.requires.within in
-    let long = part_long ws c.args.base m (omega arith) in
-    let h : i < c.args.k = omega (arith, c.loop-literal-test.true) in
-    (h, to_z-of_z w32 (get_or (take m (drop c.args.base ws)) i (pos 0)) fits ∙ part_word ws c.args.base m i (omega arith))
 
 pub index_of-requires : goal.index_of-requires
 index_of-requires c =
-    let l = literal (goal.at.index_of-requires c).In-loop-literal (search rules) in
-    rw l.1 (index_range c.args.self.now.layout.variables (word_at c.args.self.now.words.now (c.args.base + c.loop-literal.literal-index)) (false_ranged _ _ c.requires.formed c.args.self.now.words.now c.args.base c.args.k c.requires.falsified c.loop-literal.literal-index l.0)).0
-
-pub include-new-requires-clause-within : goal.include-new-requires-clause-within
-include-new-requires-clause-within c =
-    let l = literal (goal.at.include-new-requires-clause-within c).In-loop-literal (search rules) in
-    rw (c.index_of.ensures, l.1) (index_range c.args.self.now.layout.variables (word_at c.args.self.now.words.now (c.args.base + c.loop-literal.literal-index)) (false_ranged _ _ c.requires.formed c.args.self.now.words.now c.args.base c.args.k c.requires.falsified c.loop-literal.literal-index l.0)).1
+    let n = c.args.self.now.layout.variables in
+    let C = c.args.literals.now in
+    let i = c.loop-literal.literal-index in
+    let fits : SFits w32 (word_at C i) = search rules in
+    rw (to_z-of_z w32 (word_at C i) fits) (false_range n _ c.requires.formed C c.requires.falsified i (pos 0) c.loop-literal-test.true)
 
 pub loop-literal-preserved : goal.loop-literal-preserved
 loop-literal-preserved c =
-    let n = c.args.self.now.layout.variables in
-    let ws = c.args.self.now.words.now in
-    let base = c.args.base in
+    let m = c.args.self.now in
+    let n = m.layout.variables in
+    let C = c.args.literals.now in
     let i = c.loop-literal.literal-index in
-    let t = trail_of n c.args.place ws in
+    let h = c.loop-literal-test.true in
     let v = c.loop-literal.invariant in
-    let l = literal (goal.at.loop-literal-preserved c).In-loop-literal (search rules) in
-    let e = c.index_of.ensures ∙ ap index_of l.1 in
+    let l = word_at C i in
+    let fits : SFits w32 l = search rules in
+    let e = c.index_of.ensures.is ∙ ap index_of (to_z-of_z w32 l fits) in
     let r = c.include-new.ensures in
     let s = r.small in
-    let m = v.2 in (
-      names_more (held c.args.scratch.now) (held c.loop-literal.scratch) (held c.include-new.new.scratch) ws base i _ e v.0 r.held,
-      both_more (marked_index n ws) (held c.args.scratch.now) (held c.loop-literal.scratch) (held c.include-new.new.scratch) n t c.requires.formed (word_at ws (base + i))
-          (all_words (λ k. on t (neg_ℤ k) ≡ true) ws base c.args.k c.requires.falsified i l.0) _ _ _ e r.held r.new v.1,
-      omega arith,
-    )
+    let was = held c.args.scratch.now in
+    record {
+      holds = λ x. names_push was (held c.loop-literal.scratch) (held c.include-new.new.scratch) (take i C) l c.index_of.result e v.holds r.held x
+          ∙ ap (λ D. was x || names_index D x) (sym (ap (λ k. take k C) (add-one i) ∙ take-suc C i (pos 0) h));
+      counts = both_more (marked_index n m.words.now) was (held c.loop-literal.scratch) (held c.include-new.new.scratch) n (trail_of n c.args.place m.words.now) c.requires.formed l (c.requires.falsified i (pos 0) h) _ _ _ e r.held r.new v.counts;
+      few = omega arith;
+    }

@@ -12,7 +12,7 @@ returns-then-eq c =
     let e = to_z-of_z w32 l c.ranges.literal in
     let is : c.value.result ≡ True = search rules in
     let v = rw e at (sym is ∙ c.value.ensures) in
-    c.is_marked_as.ensures ∙ root_true c.args.self.now.layout.variables len c.args.self.now.words.now l _ (c.index_of.ensures ∙ ap index_of e) v
+    c.is_marked_as.ensures ∙ root_true c.args.self.now.layout.variables len c.args.self.now.words.now l _ (c.index_of.ensures.is ∙ ap index_of e) v
 
 pub returns-else-eq : goal.returns-else-eq
 returns-else-eq c =

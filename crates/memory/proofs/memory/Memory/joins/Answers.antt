@@ -1,25 +1,17 @@
-use Rattle.std.proofs.Common.{◌+◌, arith, rules}
-use Rattle.memory.specs.Words.{row_at}
-use Rattle.memory.specs.Decode.{reason_count, trail_of}
-use Rattle.memory.proofs.Words.{row_below}
-use Rattle.memory.proofs.Decode.{front_formed, reason_false, false_ranged}
+use Rattle.std.proofs.Common.{◌≡◌, true, All, sym, subst, arith, rules}
+use Rattle.rules.specs.Literals.{in_range}
+use Rattle.memory.specs.Decode.{reason_of, trail_of}
+use Rattle.memory.proofs.Decode.{front_formed, reason_false, false_range}
 use Rattle.memory.proofs.memory.Memory.joins.Goals as goal
 
 pub any_marked-requires : goal.any_marked-requires
 any_marked-requires c =
-    let n = c.args.self.now.layout.variables in
-    let ws = c.args.self.now.words.now in
+    let m = c.args.self.now in
+    let n = m.layout.variables in
+    let ws = m.words.now in
     let x = c.variable-x.result in
-    let w = c.args.self.now.sound.coherent.formed in
+    let w = m.sound.coherent.formed in
     let p = c.args.place in
-    let b = c.variable-x.ensures.below in
-    let k = c.args.self.now.sound.coherent.counts x b in
-    let big = c.args.self.now.sound.coherent.big in
-    let e = c.reason.ensures in
-    let d = c.reason_count.ensures in
-    let r = row_below n c.args.self.now.layout.slots x (1 + reason_count n ws x) (omega arith) (omega arith) in
-    let f = reason_false n c.args.self.now.extent.trail ws w p c.requires.within x c.variable-x.ensures.is (search rules) in
-    record {
-      within = omega arith;
-      ranged = rw (e, d) (false_ranged n (trail_of n p ws) (front_formed n _ ws w p (let g = c.requires.within in omega arith)) ws (row_at n x 2) (reason_count n ws x) f);
-    }
+    let h = c.requires.within in
+    subst (All (λ l. in_range n l ≡ true)) (sym c.reason.ensures)
+    (false_range n (trail_of n p ws) (front_formed n m.extent.trail ws w p (omega arith)) (reason_of n ws x) (reason_false n m.extent.trail ws w p h x c.variable-x.ensures.is (search rules)))

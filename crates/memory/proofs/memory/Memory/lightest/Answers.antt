@@ -11,12 +11,8 @@ use Rattle.memory.proofs.Choosing.{decisions_in, decisions_with, decisions_witho
 use Rattle.memory.proofs.Planning.{same_position, same_marked, framed_next, marks_falsified, marks_touched, marks_marked}
 use Rattle.memory.proofs.memory.Memory.lightest.Goals as goal
 
-pub touched_at-requires : goal.touched_at-requires
-touched_at-requires g c =
-    let f = c.loop-place.invariant.frame in
-    let h = c.loop-place-test.true in
-    let long = ap (λ e. e.trail) f.extent in
-    record { within = omega arith; falsified = marks_falsified c.args.self.now c.loop-place.self c.args.k f c.requires }
+pub touched_at-requires-clause-falsified : goal.touched_at-requires-clause-falsified
+touched_at-requires-clause-falsified g c = marks_falsified c.args.self.now c.loop-place.self c.args.k c.loop-place.invariant.frame c.requires
 
 pub loop-place-preserved-then-touched_at : goal.loop-place-preserved-then-touched_at
 loop-place-preserved-then-touched_at g c =

@@ -1,8 +1,6 @@
-use Rattle.std.proofs.Common.{◌≡◌, ℕ, ◌-◌, ◌*◌, ◌<◌, ◌||◌, sym, refl, ap, ◌∙◌, subst, arith}
-use Rattle.std.proofs.Math.Bool.{or-false}
-use Rattle.theory.specs.Chunks.{in_chunk}
-use Rattle.memory.specs.Decode.{entry_at, trail_of, marked_index, marked}
-use Rattle.memory.specs.Naming.{with_reason, marks_member}
+use Rattle.std.proofs.Common.{◌≡◌, ℕ, ◌-◌, ◌*◌, ◌<◌, refl, ◌∙◌, subst, arith}
+use Rattle.memory.specs.Decode.{entry_at, marked_index}
+use Rattle.memory.specs.Naming.{with_reason}
 use Rattle.memory.specs.Memories.{trail_in, Framed}
 use Rattle.memory.proofs.Words.{outside_none}
 use Rattle.memory.proofs.Planning.{framed_both}
@@ -16,12 +14,6 @@ loop-place-init c =
       marked = λ r a. walk_none m.layout.variables (trail_in m) m.sound.coherent.formed r a (marked_index m.layout.variables m.words.now);
       frame = record { layout = refl; extent = refl; size = refl; outside = outside_none _ _ _ };
     }
-
-pub mark_reason-requires : goal.mark_reason-requires
-mark_reason-requires c =
-    let h = c.loop-place-test.true in
-    let long = ap (λ e. e.trail) c.loop-place.invariant.frame.extent in
-    omega arith
 
 pub loop-place-preserved : goal.loop-place-preserved
 loop-place-preserved c =
@@ -39,17 +31,4 @@ loop-place-preserved c =
     record {
       marked = λ r a. walk_back n m.layout.slots m.extent.trail m.words.now mid.words.now now.words.now m.sound.coherent i.frame.outside p q (omega arith) within step r a ∙ i.marked r a;
       frame = framed_both (5 * n) n m mid now i.frame (subst (λ y. Framed (5 * y.variables) y.variables mid now) i.frame.layout e.frame);
-    }
-
-pub returns : goal.returns
-returns c =
-    let m = c.args.self.now in
-    let n = m.layout.variables in
-    let now = c.loop-place.self.words.now in
-    let T = trail_in m in
-    let i = c.loop-place.invariant in
-    let z : c.loop-place.place ≡ 0 = omega (arith, c.loop-place-test.false) in
-    record {
-      marked = λ r a. sym (or-false (marked n now r)) ∙ ap (λ q. marked n now r || marks_member (marked_index n now) (in_chunk r T) (trail_of n q m.words.now)) (sym z) ∙ i.marked r a;
-      frame = i.frame;
     }

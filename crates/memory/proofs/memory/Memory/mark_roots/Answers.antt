@@ -1,52 +1,42 @@
-use Rattle.std.proofs.Common.{◌≡◌, ◌*◌, length, ◌∙◌, inl, arith, rules}
-use Rattle.memory.specs.Words.{clause_at}
-use Rattle.memory.specs.Decode.{trail_of, clause_of}
-use Rattle.memory.proofs.Words.{outside_both}
-use Rattle.memory.proofs.Decode.{all_false, false_ranged}
-use Rattle.memory.proofs.Analysing.{clause_false}
-use Rattle.memory.proofs.Planning.{frame_sound}
+use Rattle.std.proofs.Common.{◌≡◌, ℕ, true, ◌||◌, ℤ, All, sym, ap, ◌∙◌, subst, ◌*◌}
+use Rattle.rules.specs.Literals.{in_range, has}
+use Rattle.theory.specs.Trail.{assumed_literals}
+use Rattle.theory.specs.Chunks.{in_chunk}
+use Rattle.memory.specs.Words.{words_from, clause_at}
+use Rattle.memory.specs.Decode.{marked_index, marked}
+use Rattle.memory.specs.InUse.{trail_at}
+use Rattle.memory.specs.Analysis.{names_index}
+use Rattle.memory.specs.Naming.{marks_member}
+use Rattle.memory.specs.Memories.{trail_in, clause_in}
+use Rattle.memory.proofs.Decode.{all_false, false_range}
+use Rattle.memory.proofs.Planning.{rebased, framed_next, marks_clause}
 use Rattle.memory.proofs.Rooting.{begun, named}
 use Rattle.memory.proofs.memory.Memory.mark_roots.Goals as goal
 
-pub mark_variables-requires : goal.mark_variables-requires
-mark_variables-requires c =
-    let n = c.args.self.now.layout.variables in
-    let big = c.args.self.now.sound.coherent.big in
-    let few = c.requires.0 in
-    let was = c.args.self.now.words.now in
-    let now = c.clear_marks.new.words in
-    let e = c.clause.ensures in
-    record {
-      big = search rules;
-      within = search rules;
-      apart = inl (omega arith);
-      ranged = rw e (false_ranged n (trail_of n c.args.self.now.extent.trail was) c.args.self.now.sound.coherent.formed now (clause_at n 0) c.args.k (clause_false _ _ _ _ _ _ few c.args.self.now.sound.coherent c.clear_marks.ensures.outside c.requires.1));
-    }
-
-pub invariant_of-self : goal.invariant_of-self
-invariant_of-self c =
+pub mark_variables-requires-clause-ranged : goal.mark_variables-requires-clause-ranged
+mark_variables-requires-clause-ranged c =
     let m = c.args.self.now in
-    let n = m.layout.variables in
-    record { sound = frame_sound m (5 * n) n _ (omega arith) (omega arith) (outside_both (5 * n) n _ _ _ c.clear_marks.ensures.outside c.mark_variables.ensures.outside) (search rules) }
-
-pub returns : goal.returns
-returns c =
-    let m = c.args.self.now in
-    let n = m.layout.variables in
-    let len = m.extent.trail in
+    let mid = c.clear_marks.new.self in
     let k = c.args.k in
-    let was = m.words.now in
-    let mid = c.clear_marks.new.words in
-    let ws = c.mark_variables.new.words in
-    let st = m.sound.coherent in
-    let few = c.requires.0 in
-    let z = c.clear_marks.ensures in
-    let o = outside_both (5 * n) n was mid ws z.outside c.mark_variables.ensures.outside in
-    let b = begun n _ len k was few st mid ws _ z.cleared z.outside c.clause.ensures c.mark_variables.ensures.marked in
-    let e = c.mark_reasons.ensures in
-    let now = c.mark_reasons.new.self.words.now in
-    let long : length ws ≡ length was = search rules in
-    record {
-      named = named n _ len k was few st ws now o (all_false (trail_of n len was) (clause_of n k was) c.requires.1) b e.marked;
-      frame = record { layout = e.frame.layout; extent = e.frame.extent; size = e.frame.size ∙ long; outside = outside_both (5 * n) n was ws now o e.frame.outside };
-    }
+    let f = c.clear_marks.ensures.frame in
+    rw c.clause.ensures (subst (All (λ l. in_range mid.layout.variables l ≡ true)) (sym (marks_clause m mid k f c.requires.0))
+    (subst (λ y. All (λ l. in_range y.variables l ≡ true) (clause_in m k)) (sym f.layout) (false_range m.layout.variables (trail_in m) m.sound.coherent.formed (clause_in m k) (all_false (trail_in m) (clause_in m k) c.requires.1))))
+
+pub returns-clause-named : goal.returns-clause-named
+returns-clause-named c =
+    let m = c.args.self.now in
+    let n = m.layout.variables in
+    let k = c.args.k in
+    let clear = c.clear_marks.new.self in
+    let begins = c.mark_variables.new.self in
+    let ends = c.mark_reasons.new.self in
+    let f = c.clear_marks.ensures.frame in
+    let g = framed_next (λ j. 5 * j) (λ j. j) m clear begins f c.mark_variables.ensures.frame in
+    let at : c.clause.result ≡ clause_at n 0 = c.clause.ensures ∙ ap (λ y. clause_at y.variables 0) f.layout in
+    let first : (x : ℕ) → marked_index n begins.words.now x ≡ (marked_index n clear.words.now x || names_index (words_from clear.words.now c.clause.result k) x)
+    = subst (λ y. (x : ℕ) → marked_index y.variables begins.words.now x ≡ (marked_index y.variables clear.words.now x || names_index (words_from clear.words.now c.clause.result k) x)) f.layout c.mark_variables.ensures.marked in
+    let b = begun n m.layout.slots m.extent.trail k m.words.now c.requires.0 m.sound.coherent clear.words.now begins.words.now c.clause.result c.clear_marks.ensures.cleared f.outside at first in
+    named n m.layout.slots m.extent.trail k m.words.now c.requires.0 m.sound.coherent begins.words.now ends.words.now g.outside (all_false (trail_in m) (clause_in m k) c.requires.1) b
+    (rebased m begins g.layout g.extent
+    (λ y e. (r : ℤ) → has (assumed_literals (trail_at y e begins.words.now)) r ≡ true
+    → marked y.variables ends.words.now r ≡ marks_member (marked_index y.variables begins.words.now) (in_chunk r (trail_at y e begins.words.now)) (trail_at y e begins.words.now)) c.mark_reasons.ensures.marked)

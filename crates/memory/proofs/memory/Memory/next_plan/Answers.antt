@@ -4,7 +4,7 @@ use Rattle.theory.proofs.Looking.{look_looks}
 use Rattle.memory.specs.Decode.{clause_of}
 use Rattle.memory.specs.Finding.{FoundWhole}
 use Rattle.memory.specs.Memories.{position_in}
-use Rattle.memory.proofs.Planning.{same_position, same_keeps}
+use Rattle.memory.proofs.Planning.{same_position}
 use Rattle.memory.proofs.memory.Memory.next_plan.Goals as goal
 
 pub plan_for-requires : goal.plan_for-requires
@@ -33,27 +33,19 @@ plan_without-requires g c =
     subst (λ y. Look y.variables s (position_in mid) None) (sym f.layout)
     (subst (λ p. Look n s p None) (sym (same_position (4 * n) n m mid f (omega arith) (omega arith))) (subst (Look n s (position_in m)) (sym c.in-None.ensures.found) (look_looks n s (position_in m))))
 
-pub returns-in-Some : goal.returns-in-Some
-returns-in-Some g c =
+pub returns-in-Some-clause-position : goal.returns-in-Some-clause-position
+returns-in-Some-clause-position g c =
     let m = c.args.self.now in
     let n = m.layout.variables in
     let f = c.look.ensures.frame in
     let e = c.plan_for.ensures in
     let k = e.keeps in
-    record {
-      planned = e.planned;
-      position = e.position ∙ same_position (4 * n) n m c.look.new.self f (omega arith) (omega arith);
-      keeps = record { layout = k.layout ∙ f.layout; assumptions = k.assumptions ∙ (same_keeps (4 * n) n m c.look.new.self f (omega arith) (omega arith)).assumptions; size = k.size ∙ f.size };
-    }
+    e.position ∙ same_position (4 * n) n m c.look.new.self f (omega arith) (omega arith)
 
-pub returns-in-None : goal.returns-in-None
-returns-in-None g c =
+pub returns-in-None-clause-position : goal.returns-in-None-clause-position
+returns-in-None-clause-position g c =
     let m = c.args.self.now in
     let n = m.layout.variables in
     let mid = c.look.new.self in
     let f = c.look.ensures.frame in
-    record {
-      planned = c.plan_without.ensures;
-      position = same_position (4 * n) n m mid f (omega arith) (omega arith);
-      keeps = same_keeps (4 * n) n m mid f (omega arith) (omega arith);
-    }
+    same_position (4 * n) n m mid f (omega arith) (omega arith)

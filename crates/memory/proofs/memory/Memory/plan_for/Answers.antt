@@ -1,4 +1,4 @@
-use Rattle.std.proofs.Common.{◌≡◌, ℕ, ◌*◌, ◌≤◌, filter, sym, refl, subst, arith}
+use Rattle.std.proofs.Common.{◌≡◌, ℕ, ◌*◌, ◌≤◌, filter, sym, subst, arith}
 use Rattle.rules.specs.Clauses.{Status.falsified, status}
 use Rattle.theory.specs.Trail.{Entry.implied, on, assumed_literals}
 use Rattle.theory.specs.Chunks.{touches}
@@ -7,16 +7,16 @@ use Rattle.theory.specs.Conflict.{others_of}
 use Rattle.theory.specs.Search.{Verdict.refuted, Ends, Kind, Kind.implying, Step, Step.imply}
 use Rattle.memory.specs.Words.{word_at, clause_at}
 use Rattle.memory.specs.Decode.{literal_at, clause_of}
-use Rattle.memory.specs.Standing.{trail_at, position_at}
+use Rattle.memory.specs.InUse.{trail_at, position_at}
 use Rattle.memory.specs.Finding.{StandsSo}
 use Rattle.memory.specs.Guides.{guided}
 use Rattle.memory.specs.Memories.{trail_in, position_in, clause_in}
 use Rattle.memory.specs.Plans.{ConflictInHand, Undone}
-use Rattle.memory.proofs.Planning.{rebased, same_position, same_keeps, placing_step, conflict_planned, contradiction_planned}
+use Rattle.memory.proofs.Planning.{rebased, same_position, placing_step, conflict_planned, contradiction_planned}
 use Rattle.memory.proofs.memory.Memory.plan_for.Goals as goal
 
-pub returns-in-Unit : goal.returns-in-Unit
-returns-in-Unit g c =
+pub returns-in-Unit-clause-planned : goal.returns-in-Unit-clause-planned
+returns-in-Unit-clause-planned g c =
     let m = c.args.self.now in
     let n = m.layout.variables in
     let k = c.args.found.count in
@@ -24,21 +24,13 @@ returns-in-Unit g c =
     let l = word_at m.words.now (clause_at n c.in-Unit.at) in
     let C = clause_in m k in
     let stands = subst (StandsSo n (trail_in m) m.words.now k) c.in-Unit.is h.stands in
-    let guide = guided (g.S.Source.meaning c.args.guide.now.source.now) c.args.guide.now.preferences.now g.W.Weight.Order.at_most g.W.Weight.Scale.zero g.W.Weight.Scale.plus (g.W.Weigher.weight c.args.guide.now.weigher.now) in
-    record {
-      planned = (
-        record { few = h.few; among = stands.0; ranged = h.ranged; stands = stands.1 },
-        λ k' u p'. placing_step n m.layout.slots guide (position_in m) (implied l (others_of l C)) implying k' u p' (imply C l c.requires.look stands.1),
-      );
-      position = refl;
-      keeps = record { layout = refl; assumptions = refl; size = refl };
-    }
+    let guide = guided (g.S.Source.meaning c.args.guide.now.source.now) c.args.guide.now.preferences.now g.W.Weight.Order.at_most g.W.Weight.Scale.zero g.W.Weight.Scale.plus (g.W.Weigher.weight c.args.guide.now.weigher.now) in (
+      record { few = h.few; among = stands.0; ranged = h.ranged; stands = stands.1 },
+      λ k' u p'. placing_step n m.layout.slots guide (position_in m) (implied l (others_of l C)) implying k' u p' (imply C l c.requires.look stands.1),
+    )
 
-pub choose-requires : goal.choose-requires
-choose-requires g c = let m = c.args.self.now in (c.requires.found.few, subst (StandsSo m.layout.variables (trail_in m) m.words.now c.args.found.count) c.in-Falsified.is c.requires.found.stands)
-
-pub returns-in-Some : goal.returns-in-Some
-returns-in-Some g c =
+pub returns-in-Some-clause-planned : goal.returns-in-Some-clause-planned
+returns-in-Some-clause-planned g c =
     let m = c.args.self.now in
     let n = m.layout.variables in
     let e = m.extent in
@@ -50,17 +42,18 @@ returns-in-Some g c =
     let fa = subst (StandsSo n (trail_in m) m.words.now k) c.in-Falsified.is c.requires.found.stands in
     let chosen = c.in-Some.ensures in
     let guide = guided (g.S.Source.meaning c.args.guide.now.source.now) c.args.guide.now.preferences.now g.W.Weight.Order.at_most g.W.Weight.Scale.zero g.W.Weight.Scale.plus (g.W.Weigher.weight c.args.guide.now.weigher.now) in
-    record {
-      planned = rebased now m (sym f.layout) (sym f.extent)
-          (λ y x. ConflictInHand y.variables x.trail ws k root
-          × ((kind : Kind) (undone : ℕ) (p' : Position) → Undone y.variables y.slots (position_at y x ws) (clause_of y.variables k ws) (literal_at y.variables ws root) kind undone p' → Step y.variables y.slots guide (position_at y x ws) kind undone p'))
-          (conflict_planned n m.layout.slots e.assumptions e.trail e.slots m.words.now ws m.sound f.outside guide k c.requires.found.few c.requires.look fa root chosen.marked.0 chosen.rule);
-      position = same_position (5 * n) n m now f (omega arith) (omega arith);
-      keeps = same_keeps (5 * n) n m now f (omega arith) (omega arith);
-    }
+    rebased now m (sym f.layout) (sym f.extent)
+    (λ y x. ConflictInHand y.variables x.trail ws k root
+    × ((kind : Kind) (undone : ℕ) (p' : Position) → Undone y.variables y.slots (position_at y x ws) (clause_of y.variables k ws) (literal_at y.variables ws root) kind undone p' → Step y.variables y.slots guide (position_at y x ws) kind undone p'))
+    (conflict_planned n m.layout.slots e.assumptions e.trail e.slots m.words.now ws m.sound f.outside guide k c.requires.found.few c.requires.look fa root chosen.marked.0 chosen.rule)
 
-pub returns-in-None : goal.returns-in-None
-returns-in-None g c =
+pub returns-in-Some-clause-position : goal.returns-in-Some-clause-position
+returns-in-Some-clause-position g c =
+    let n = c.args.self.now.layout.variables in
+    same_position (5 * n) n c.args.self.now c.choose.new.self c.choose.ensures.frame (omega arith) (omega arith)
+
+pub returns-in-None-clause-planned : goal.returns-in-None-clause-planned
+returns-in-None-clause-planned g c =
     let m = c.args.self.now in
     let n = m.layout.variables in
     let e = m.extent in
@@ -70,11 +63,12 @@ returns-in-None g c =
     let f = c.choose.ensures.frame in
     let fa = subst (StandsSo n (trail_in m) m.words.now k) c.in-Falsified.is c.requires.found.stands in
     let guide = guided (g.S.Source.meaning c.args.guide.now.source.now) c.args.guide.now.preferences.now g.W.Weight.Order.at_most g.W.Weight.Scale.zero g.W.Weight.Scale.plus (g.W.Weigher.weight c.args.guide.now.weigher.now) in
-    record {
-      planned = rebased now m (sym f.layout) (sym f.extent)
-          (λ y x. ((k ≤ y.variables) × (status (on (trail_at y x ws)) (clause_of y.variables k ws) ≡ falsified))
-          × Ends y.variables guide.source (position_at y x ws) refuted (filter (λ r. touches (trail_at y x ws) r (clause_of y.variables k ws)) (assumed_literals (trail_at y x ws))))
-          (contradiction_planned n m.layout.slots e.assumptions e.trail e.slots m.words.now ws m.sound f.outside guide k c.requires.found.few c.requires.look fa c.in-None.ensures.rule);
-      position = same_position (5 * n) n m now f (omega arith) (omega arith);
-      keeps = same_keeps (5 * n) n m now f (omega arith) (omega arith);
-    }
+    rebased now m (sym f.layout) (sym f.extent)
+    (λ y x. ((k ≤ y.variables) × (status (on (trail_at y x ws)) (clause_of y.variables k ws) ≡ falsified))
+    × Ends y.variables guide.source (position_at y x ws) refuted (filter (λ r. touches (trail_at y x ws) r (clause_of y.variables k ws)) (assumed_literals (trail_at y x ws))))
+    (contradiction_planned n m.layout.slots e.assumptions e.trail e.slots m.words.now ws m.sound f.outside guide k c.requires.found.few c.requires.look fa c.in-None.ensures.rule)
+
+pub returns-in-None-clause-position : goal.returns-in-None-clause-position
+returns-in-None-clause-position g c =
+    let n = c.args.self.now.layout.variables in
+    same_position (5 * n) n c.args.self.now c.choose.new.self c.choose.ensures.frame (omega arith) (omega arith)

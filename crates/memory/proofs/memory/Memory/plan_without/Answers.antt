@@ -23,8 +23,7 @@ returns-in_default g c =
     let e = m.extent in
     let i = c.in-Some.number in
     let f = c.in-Some.ensures in
-    let guide = guided (g.S.Source.meaning c.args.guide.now.source.now) c.args.guide.now.preferences.now g.W.Weight.Order.at_most g.W.Weight.Scale.zero g.W.Weight.Scale.plus (g.W.Weigher.weight c.args.guide.now.weigher.now) in
-    assumption_planned m.layout.variables m.layout.slots e.assumptions e.trail e.slots m.words.now m.sound i f.within f.first guide c.requires
+    assumption_planned m.layout.variables m.layout.slots e.assumptions e.trail e.slots m.words.now m.sound i f.within f.first _ c.requires
     (λ v. c.in_default.not-False (c.assumption_value.ensures ∙ v))
 
 pub returns-in-Some-next_decision : goal.returns-in-Some-next_decision
@@ -36,10 +35,9 @@ returns-in-Some-next_decision g c =
     let l = c.in-Some-next_decision.literal in
     let fits : SFits w32 l = search rules in
     let d = c.next_decision.ensures.decides in
-    let guide = guided (g.S.Source.meaning c.args.guide.now.source.now) c.args.guide.now.preferences.now g.W.Weight.Order.at_most g.W.Weight.Scale.zero g.W.Weight.Scale.plus (g.W.Weigher.weight c.args.guide.now.weigher.now) in
     rw (to_z-of_z w32 l fits) (
       c.next_decision.ensures.unassigned l c.in-Some-next_decision.is,
-      λ k undone p'. placing_step n L guide p (decided l) deciding k undone p' (decision_step n L guide p c.requires l c.in-None.ensures.first c.next_decision.result c.in-Some-next_decision.is d),
+      λ k undone p'. placing_step n L _ p (decided l) deciding k undone p' (decision_step n L _ p c.requires l c.in-None.ensures.first c.next_decision.result c.in-Some-next_decision.is d),
     )
 
 pub returns-in-None-next_decision : goal.returns-in-None-next_decision

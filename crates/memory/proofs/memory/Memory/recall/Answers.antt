@@ -1,22 +1,9 @@
-use Rattle.std.proofs.Common.{◌+◌, ◌*◌, sym, refl, ap, ◌∙◌, arith, rules}
+use Rattle.std.proofs.Common.{◌+◌, ◌*◌, sym, ap, ◌∙◌, arith, rules}
 use Rattle.memory.specs.Words.{words_from, row_at, Outside}
 use Rattle.memory.proofs.Planning.{frame_sound}
 use Rattle.memory.proofs.Words.{copied_words, copied_outside, outside_wider}
 use Rattle.memory.proofs.memory.Memory.recall.Goals as goal
 use Rattle.memory.proofs.memory.Memory.recall.Goals.{After-copy_within}
-
-pub copy_within-requires : goal.copy_within-requires
-copy_within-requires c =
-    let n = c.args.self.now.layout.variables in
-    let ws = c.args.self.now.words.now in
-    let h = c.requires in
-    let within = c.args.self.now.sound.within in
-    let big = c.args.self.now.sound.coherent.big in
-    let f = c.slot_count-count.ensures.few in
-    let e = c.clause-clause.ensures in
-    let k = c.slot_count-count.ensures.is in
-    let r = c.slot-start.ensures.room in
-    record { start_le_end = omega arith; in_bounds = omega arith; dest_in_bounds = omega arith; not_exhausted = tt }
 
 -- only the clause in hand changed
 recalled_outside : (c : After-copy_within) → Outside (4 * c.args.self.now.layout.variables) c.args.self.now.layout.variables c.args.self.now.words.now c.copy_within.new.self
@@ -30,8 +17,8 @@ recalled_outside c =
 pub invariant_of-self : goal.invariant_of-self
 invariant_of-self c = record { sound = frame_sound c.args.self.now (4 * c.args.self.now.layout.variables) c.args.self.now.layout.variables _ (omega arith) (omega arith) (recalled_outside (goal.at.invariant_of-self c).After-copy_within) (search rules) }
 
-pub returns : goal.returns
-returns c =
+pub returns-clause-clause : goal.returns-clause-clause
+returns-clause-clause c =
     let n = c.args.self.now.layout.variables in
     let was = c.args.self.now.words.now in
     let now = c.copy_within.new.self in
@@ -41,9 +28,5 @@ returns c =
     let many = c.slot_count-count.ensures.is in
     let f = c.slot_count-count.ensures.few in
     let copied = c.copy_within.ensures.by_index in
-    record {
-      clause = ap (λ b. words_from now b k) (sym e) ∙ copied_words was now c.slot-start.result c.clause-clause.result k copied.0
-          ∙ ap (λ b. words_from was b k) c.slot-start.ensures.at ∙ ap (words_from was (row_at n (n + s) 1)) many;
-      few = omega arith;
-      frame = record { layout = refl; extent = refl; size = search rules; outside = recalled_outside (goal.at.returns c).After-copy_within };
-    }
+    ap (λ b. words_from now b k) (sym e) ∙ copied_words was now c.slot-start.result c.clause-clause.result k copied.0
+    ∙ ap (λ b. words_from was b k) c.slot-start.ensures.at ∙ ap (words_from was (row_at n (n + s) 1)) many

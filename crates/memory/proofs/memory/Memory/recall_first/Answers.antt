@@ -1,12 +1,12 @@
-use Rattle.std.proofs.Common.{◌≡◌, ◌+◌, true, Some, All, sym, ap, ◌∙◌, subst}
+use Rattle.std.proofs.Common.{◌≡◌, ◌+◌, true, All, sym, subst}
 use Rattle.rules.specs.Literals.{in_range}
 use Rattle.memory.specs.Words.{clause_at, row_at}
 use Rattle.memory.specs.Decode.{slot_count}
 use Rattle.memory.proofs.Words.{words_all, all_words}
 use Rattle.memory.proofs.memory.Memory.recall_first.Goals as goal
 
-pub returns : goal.returns
-returns c =
+pub returns-clause-whole : goal.returns-clause-whole
+returns-clause-whole c =
     let m = c.args.self.now in
     let n = m.layout.variables in
     let was = m.words.now in
@@ -14,8 +14,4 @@ returns c =
     let k = c.recall.result in
     let e = c.in_ok-slot.ensures in
     let all = words_all (λ l. in_range n l ≡ true) was (row_at n (n + s) 1) (slot_count n was s) (λ i h. m.sound.stored.ranged s i e.within h) in
-    record {
-      clause = ap Some c.recall.ensures.clause ∙ e.first;
-      whole = (c.recall.ensures.few, all_words (λ l. in_range n l ≡ true) c.recall.new.self.words.now (clause_at n 0) k (subst (All (λ l. in_range n l ≡ true)) (sym c.recall.ensures.clause) all));
-      frame = c.recall.ensures.frame;
-    }
+    (c.recall.ensures.few, all_words (λ l. in_range n l ≡ true) c.recall.new.self.words.now (clause_at n 0) k (subst (All (λ l. in_range n l ≡ true)) (sym c.recall.ensures.clause) all))

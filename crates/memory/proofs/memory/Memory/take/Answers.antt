@@ -1,11 +1,14 @@
-use Rattle.std.proofs.Common.{◌≡◌, get_or, pos, sym, refl, ap, subst, arith, w32, SFits, rules}
+use Rattle.std.proofs.Common.{◌≡◌, true, get_or, pos, refl, sym, subst, w32, SFits, arith, rules}
 use Rattle.std.proofs.lemmas.Int.{to_z-of_z}
+use Rattle.rules.specs.Literals.{in_range}
 use Rattle.theory.specs.Trail.{Entry.assumed, Entry.decided}
-use Rattle.theory.specs.Search.{Kind.conflicting, placed}
+use Rattle.theory.specs.Search.{Kind.assuming, Kind.deciding, Kind.implying, Kind.conflicting, placed}
+use Rattle.memory.specs.Words.{word_at, clause_at}
 use Rattle.memory.specs.Decode.{literal_at}
-use Rattle.memory.specs.Memories.{position_in}
-use Rattle.memory.specs.Reports.{kind_of}
-use Rattle.memory.specs.Plans.{Taken}
+use Rattle.memory.specs.Memories.{trail_in, position_in, clause_in}
+use Rattle.memory.specs.Plans.{Ready, Taken}
+use Rattle.memory.proofs.Words.{words_all}
+use Rattle.memory.proofs.Asserting.{unit_placeable}
 use Rattle.memory.proofs.Stepping.{chunk_most}
 use Rattle.memory.proofs.memory.Memory.take.Goals as goal
 
@@ -15,34 +18,31 @@ returns-in-Assume-clause-taken c =
     let p = position_in c.place.new.self in
     let l = get_or m.words.now c.in-Assume.number (pos 0) in
     let fits : SFits w32 l = search rules in
-    subst (λ step. Taken m step (kind_of c.placed.result.kind) c.placed.result.undone p) (sym c.in-Assume.is) (record {
-      kind = ap (λ r. kind_of r.kind) c.placed.ensures;
-      none = ap (λ r. r.undone) c.placed.ensures;
-      leads = subst (λ x. p ≡ placed (position_in m) (assumed x)) (to_z-of_z w32 l fits) c.place.ensures.placed;
-    })
+    subst (λ step. Taken m step assuming 0 p) (sym c.in-Assume.is)
+    (record { kind = refl; none = refl; leads = subst (λ x. p ≡ placed (position_in m) (assumed x)) (to_z-of_z w32 l fits) c.place.ensures.placed })
 
 pub returns-in-Decide-clause-taken : goal.returns-in-Decide-clause-taken
 returns-in-Decide-clause-taken c =
     let m = c.args.self.now in
     let p = position_in c.place-in-Decide.new.self in
-    let r = c.placed-in-Decide in
     let l = c.in-Decide.literal in
     let fits : SFits w32 l = search rules in
-    subst (λ step. Taken m step (kind_of r.result.kind) r.result.undone p) (sym c.in-Decide.is) (record {
-      kind = ap (λ r. kind_of r.kind) r.ensures;
-      none = ap (λ r. r.undone) r.ensures;
-      leads = subst (λ x. p ≡ placed (position_in m) (decided x)) (to_z-of_z w32 l fits) c.place-in-Decide.ensures.placed;
-    })
+    subst (λ step. Taken m step deciding 0 p) (sym c.in-Decide.is)
+    (record { kind = refl; none = refl; leads = subst (λ x. p ≡ placed (position_in m) (decided x)) (to_z-of_z w32 l fits) c.place-in-Decide.ensures.placed })
+
+pub imply-requires-clause-placeable : goal.imply-requires-clause-placeable
+imply-requires-clause-placeable c =
+    let m = c.args.self.now in
+    let n = m.layout.variables in
+    let ws = m.words.now in
+    let k = c.in-Imply.count in
+    let u = subst (Ready m) c.in-Imply.is c.requires.ready in
+    unit_placeable n (trail_in m) (clause_in m k) (words_all (λ l. in_range n l ≡ true) ws (clause_at n 0) k u.ranged) (word_at ws (clause_at n c.in-Imply.at)) u.stands
 
 pub returns-in-Imply-clause-taken : goal.returns-in-Imply-clause-taken
 returns-in-Imply-clause-taken c =
     let m = c.args.self.now in
-    let r = c.placed-in-Imply in
-    subst (λ step. Taken m step (kind_of r.result.kind) r.result.undone (position_in c.imply.new.self)) (sym c.in-Imply.is) (record {
-      kind = ap (λ r. kind_of r.kind) r.ensures;
-      none = ap (λ r. r.undone) r.ensures;
-      leads = c.imply.ensures.placed;
-    })
+    subst (λ step. Taken m step implying 0 (position_in c.imply.new.self)) (sym c.in-Imply.is) (record { kind = refl; none = refl; leads = c.imply.ensures.placed })
 
 pub returns-in-Repair-clause-taken : goal.returns-in-Repair-clause-taken
 returns-in-Repair-clause-taken c =

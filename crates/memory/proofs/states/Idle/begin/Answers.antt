@@ -1,23 +1,24 @@
-use Rattle.std.proofs.Common.{sym, refl, ap, subst, rules}
+use Rattle.std.proofs.Common.{◌≡◌, ℕ, ◌<◌, length, pos, sym, ap, subst, rules}
 use Rattle.theory.specs.Calls.{Call.begin, Reply.done, State.searching, begun, Next.begins}
+use Rattle.memory.specs.Words.{word_at}
 use Rattle.memory.specs.Sessions.{standing, idle_state, Promised}
-use Rattle.memory.proofs.Calling.{all_ranged}
+use Rattle.memory.proofs.Clearing.{emptied_sound, emptied_assumptions}
 use Rattle.memory.proofs.Promising.{promised}
 use Rattle.memory.proofs.states.Idle.begin.Goals as goal
 
-pub invariant_of-result : goal.invariant_of-result
-invariant_of-result c =
-    let s = c.args.self in
-    record { sound = c.empty.ensures.sound s.assumptions s.few (all_ranged s.layout.variables s.assumptions s.words.now s.ranged) }
+pub invariant_of-memory : goal.invariant_of-memory
+invariant_of-memory c =
+    let zero : (i : ℕ) → i < length c.fill.new.self → word_at c.fill.new.self i ≡ pos 0 = search rules in
+    record { sound = emptied_sound c.args.self c.fill.new.self (search rules) zero }
 
-pub returns : goal.returns
-returns c =
+pub returns-clause-search : goal.returns-clause-search
+returns-clause-search c =
+    let zero : (i : ℕ) → i < length c.fill.new.self → word_at c.fill.new.self i ≡ pos 0 = search rules in
+    ap begun (emptied_assumptions c.args.self c.fill.new.self (search rules) zero)
+
+pub returns-clause-promised : goal.returns-clause-promised
+returns-clause-promised c =
     let s = c.args.self in
-    let same = ap begun (c.empty.ensures.assumptions s.assumptions s.few) in
-    record {
-      search = same;
-      promised = subst (λ q. Promised s.layout.variables s.layout.slots (idle_state s) begin done (searching q)) (sym same)
-          (promised s.layout.variables s.layout.slots (idle_state s) begin done (searching (begun (standing s))) tt begins);
-      layout = refl;
-      size = search rules;
-    }
+    let zero : (i : ℕ) → i < length c.fill.new.self → word_at c.fill.new.self i ≡ pos 0 = search rules in
+    subst (λ q. Promised s.layout.variables s.layout.slots (idle_state s) begin done (searching q)) (sym (ap begun (emptied_assumptions s c.fill.new.self (search rules) zero)))
+    (promised s.layout.variables s.layout.slots (idle_state s) begin done (searching (begun (standing s))) tt begins)

@@ -1,10 +1,11 @@
-use Rattle.std.proofs.Common.{refl}
 use Rattle.theory.specs.Calls.{Call.settle, Reply.done, State.settled, Next.settles}
-use Rattle.memory.specs.Sessions.{searched, search_state}
+use Rattle.memory.specs.Searches.{search_in}
+use Rattle.memory.specs.Sessions.{search_state}
 use Rattle.memory.proofs.Promising.{promised}
 use Rattle.memory.proofs.states.Search.settle.Goals as goal
 
-pub returns : goal.returns
-returns c =
+pub returns-clause-promised : goal.returns-clause-promised
+returns-clause-promised c =
     let s = c.args.self in
-    record { search = refl; promised = promised s.memory.layout.variables s.memory.layout.slots (search_state s) settle done (settled (searched s)) tt settles; layout = refl; verdict = refl; size = refl }
+    let m = s.progress.memory in
+    promised m.layout.variables m.layout.slots (search_state s) settle done (settled (search_in s.progress)) tt settles

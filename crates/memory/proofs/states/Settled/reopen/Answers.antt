@@ -1,4 +1,3 @@
-use Rattle.std.proofs.Common.{refl}
 use Rattle.theory.specs.Calls.{Call.reopen, Reply.done, State.idle, Next.reopens}
 use Rattle.memory.specs.Decode.{assumptions_of}
 use Rattle.memory.specs.Sessions.{settled_state}
@@ -8,16 +7,11 @@ use Rattle.memory.proofs.states.Settled.reopen.Goals as goal
 
 pub invariant_of-result : goal.invariant_of-result
 invariant_of-result c =
-    let s = c.args.self in
-    let so = s.memory.sound in
-    record { room = so.coherent.big; few = so.few; ranged = ranged_all s.memory.layout.variables s.memory.extent.assumptions s.memory.words.now so.ranged }
+    let m = c.args.self.progress.memory in
+    record { room = m.sound.coherent.big; few = m.sound.few; ranged = ranged_all m.layout.variables m.extent.assumptions m.words.now m.sound.ranged }
 
-pub returns : goal.returns
-returns c =
+pub returns-clause-promised : goal.returns-clause-promised
+returns-clause-promised c =
     let s = c.args.self in
-    record {
-      assumptions = refl;
-      promised = promised s.memory.layout.variables s.memory.layout.slots (settled_state s) reopen done (idle (assumptions_of s.memory.extent.assumptions s.memory.words.now)) tt reopens;
-      layout = refl;
-      size = refl;
-    }
+    let m = s.progress.memory in
+    promised m.layout.variables m.layout.slots (settled_state s) reopen done (idle (assumptions_of m.extent.assumptions m.words.now)) tt reopens
