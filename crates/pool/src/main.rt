@@ -13,7 +13,7 @@ use anyhow::anyhow;
 use rules::clauses::ClauseBook;
 use rules::groups::GroupBook;
 use rules::join::Join;
-use rules::literal::{Value, value_of};
+use rules::literal::{Value, is_in_range, value_of};
 use rules::refusal::Refusal;
 use rules::source::Source;
 use std::io;
@@ -22,7 +22,7 @@ use std::io;
 const VARIABLES: u32 = 6;
 
 /// The same, for places on a page.
-const COUNT: usize = 6;
+const COUNT: usize = VARIABLES as usize;
 
 /// What the program asks, with the literals that are known then.
 const QUESTIONS: [(&str, &[i32]); 6] = [
@@ -75,6 +75,7 @@ fn run(rt: &HostRuntime) -> anyhow::Result<()> {
 
 /// The wakeup is lost; the queue was empty exactly if the worker moved first; the wakeup came before the sleep
 /// exactly if the worker moved last.
+// A program stands by itself, with the rules of its pool: a crate for two such functions is no plainer.
 fn fill_clauses(book: &mut ClauseBook) -> Result<(), Refusal> {
     book.add(&[5])?;
     book.add(&[6])?;
@@ -85,7 +86,6 @@ fn fill_clauses(book: &mut ClauseBook) -> Result<(), Refusal> {
 }
 
 /// Each of the two takes at most two of the four steps.
-// Each program stands by itself, with the rules of its pool.
 fn fill_groups(book: &mut GroupBook) -> Result<(), Refusal> {
     book.add(2, &[1, 2, 3, 4])?;
     book.add(2, &[-1, -2, -3, -4])
@@ -97,9 +97,8 @@ fn ask<S: Source>(rt: &HostRuntime, rules: &S, question: &str, known: &[i32]) ->
     println!(rt; "{question}")?;
     let mut page = [0; 2 * COUNT];
     for literal in known {
-        let variable = literal.unsigned_abs() as usize;
-        if 1 <= variable && variable <= COUNT {
-            page[variable - 1] = *literal;
+        if is_in_range(*literal, VARIABLES) {
+            page[literal.unsigned_abs() as usize - 1] = *literal;
         }
     }
     match rules.question(&mut page) {
