@@ -129,7 +129,7 @@ impl Memory<'_> {
         // All the words are split: where a part of them is lent and split, it is not known what is left of it.
         let (front, clause) = words.split_at_mut(4 * n);
         let values = &front[3 * n..];
-        // A loop: the number of the literals is needed besides the clause.
+        // A loop that counts: the number of the literals is needed besides, and a chain would be gone over twice.
         let mut count: usize = 0;
         for (x, value) in values.iter().enumerate() {
             if *value != 0 && holds(scratch, x) {
@@ -143,7 +143,7 @@ impl Memory<'_> {
 
 // These are no methods of the guard (`Held`), since each function would be lent the guard then: it could be given other bytes, so that
 // each would have to promise that it has the same ones. That the bytes have room for every variable is asked of bytes and memory
-// together, which the caller lends each by itself.
+// together, which the caller lends separately.
 
 /// Whether a variable is held.
 fn holds(scratch: &[u8], x: usize) -> bool

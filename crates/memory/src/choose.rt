@@ -11,8 +11,8 @@ use weights::chooser::{Candidate, Chooser};
 use weights::weigher::{Standing, Weigher};
 
 // That the clause in hand is falsified is asked of the memory, and the number of its literals is passed on. A struct that lends the
-// memory for a conflict was tried: it is proved, but each of its functions has to promise besides that it lends the same memory, by
-// the name of the reference, and that the number stays.
+// memory for a conflict was tried: it is proved, but each of its functions has to promise besides that it lends the very same
+// memory, and that the number stays.
 impl Memory<'_> {
     /// The place of the decision whose chunk is to be undone, if the falsified clause of `k` literals in hand touches the chunk of one:
     /// while a slot is empty the lightest of these, the latest of equal ones; otherwise the latest. Its chunk is then marked.

@@ -14,8 +14,8 @@ use rules::status::ClauseStatus;
 
 impl Memory<'_> {
     /// The clause of `k` words in hand.
-    // How many words it has is passed on, and is no part of the memory: a clause is in hand only from a look to the step that it leads
-    // to, and from an analysis to the learning, and every promise that what is in use stays would have to except its length.
+    // How many words it has is passed on, and is no part of the memory: a clause is in hand only from a look to the step or the end that
+    // it leads to, and from an analysis to the learning, and every promise that what is in use stays would have to except its length.
     pub(crate) fn clause(&self, k: usize) -> &[i32]
         requires { k ≤ self.now.layout.variables }
         ensures { result.now ≡ clause_in self.now k }

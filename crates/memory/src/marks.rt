@@ -44,7 +44,8 @@ impl Memory<'_> {
     }
 
     /// Whether one of the literals, which are in range, has its variable marked.
-    // That they are in range is asked of the list: of a part of the words it follows from what the memory knows of its words.
+    // That they are in range is asked of the list: of a part of the words it follows from what the memory knows of its words, and a type
+    // for such lists would have to be built by each caller.
     pub(crate) fn any_marked(&self, literals: &[i32]) -> bool
         requires { All (λ l. in_range self.now.layout.variables l ≡ true) literals.now }
         ensures { result ≡ meets (marked self.now.layout.variables self.now.words.now) literals.now }

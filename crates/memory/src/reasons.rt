@@ -72,7 +72,7 @@ fn copy_others(clause: &[i32], literal: i32, room: &mut [i32]) -> usize
     ensures count { result ≡ length (others_of literal clause.now) }
     ensures copied { room.new ≡ others_of literal clause.now ++ drop result room.old }
 {
-    // A loop: the number of the copied is needed besides the room.
+    // A loop that counts: the number of those copied is needed besides, and a chain would be gone over twice.
     let mut count: usize = 0;
     for other in clause {
         if *other != literal {

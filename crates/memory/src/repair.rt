@@ -10,8 +10,8 @@ use crate::memory::Memory;
 
 impl Memory<'_> {
     /// Repairs the conflict with the falsified clause of `k` words in hand, which touches the chunk of the decision at the place `root`.
-    /// The clause is analysed for that chunk. What is left is learned, the chunk is undone, and the literal that touched it is placed.
-    /// Says how many literals were undone. The scratch bytes are all 0 afterwards.
+    /// The clause is analysed for that chunk. The chunk is undone, the literal that touched it is placed, and what the analysis left is
+    /// learned. Says how many literals were undone. The scratch bytes are all 0 afterwards.
     pub(crate) fn repair(&mut self, root: usize, k: usize, scratch: &mut [u8]) -> usize
         requires conflict { ConflictInHand self.old.layout.variables self.old.extent.trail self.old.words.now k root }
         requires room { self.old.layout.variables ≤ length scratch.old }

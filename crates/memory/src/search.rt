@@ -17,7 +17,7 @@ use weights::weigher::Weigher;
 
 impl<'a> Search<'a> {
     /// Runs the search for at most so many steps, and keeps what it answers. A refused call changes nothing else.
-    // Its three guides are the caller's, and are one struct from here on.
+    // Its three guides are the caller's, and are one struct from here on: a public one would only be made to be taken apart.
     pub fn run<S: Source, W: Weigher>(
         &mut self,
         limit: u32,

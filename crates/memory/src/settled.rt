@@ -28,6 +28,7 @@ impl<'a> Settled<'a> {
         if self.progress.verdict != Verdict::Model {
             return Err(Refusal::NoModel);
         }
+        // By its number: a variable is no literal.
         if variable == 0 || variable as usize > self.progress.memory.layout.variables {
             return Err(Refusal::NoVariable);
         }

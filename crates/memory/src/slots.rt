@@ -41,7 +41,7 @@ impl Memory<'_> {
         ensures within { WithinCount self.now.extent.slots result }
     {
         // Goes by the slots' numbers: a slot is a part of the words, and its number is what is answered. The books go over their rows
-        // so too; one function over an iterator, with a closure for the status, would leave each of the proofs as it is, and add one.
+        // in the same way; one function over an iterator, with a closure for the status, would leave each of the proofs as it is, and add one.
         let mut unit = None;
         for s in 0..self.extent.slots {
             match self.slot_status(s) {

@@ -10,6 +10,7 @@ use crate::progress::Progress;
 use crate::report::{Refusal, Report};
 
 /// A session between searches, over lent words. It ends only by `close`.
+// Words with a number of how many are in use, as in `Memory`: nothing is allocated.
 pub struct Idle<'a> {
     pub(crate) words: &'a mut [i32],
     pub(crate) layout: Layout,

@@ -21,7 +21,7 @@ impl Memory<'_> {
         let layout = self.layout;
         let len = self.extent.trail;
         let words = &mut *self.words;
-        // A slice has no `retain`: each literal that stays moves up to the place `left`.
+        // A slice has no `retain`: each literal that stays moves forward to the place `left`.
         let mut left: usize = 0;
         for place in 0..len {
             let literal = words[layout.trail(place)];

@@ -95,7 +95,7 @@ fn read_rules(
 }
 
 /// The number of clauses, and the rules.
-// The two books by themselves, here and in what follows, as where the rules are read.
+// The two books are parameters of their own here and below, for the reason given at `read_rules`.
 fn read_body(
     reader: &mut Reader<'_>,
     variables: u32,

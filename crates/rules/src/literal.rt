@@ -32,7 +32,7 @@ pub enum Value {
 pub fn value_of(literal: i32, valuation: &[i32]) -> Value
     ensures { result ≡ value_in (true_in valuation.now) literal }
 {
-    // By index: a chain of `checked_sub`, `and_then` and `get` with a match that has two guards is no plainer than one test and these.
+    // By index: a chain of `checked_sub`, `and_then` and `get` with a match that has two guards is no plainer than one test and the three cases below.
     let variable = literal.unsigned_abs() as usize;
     if variable == 0 || variable > valuation.len() {
         return Value::Unassigned;

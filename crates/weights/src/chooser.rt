@@ -30,7 +30,7 @@ impl<W: Order> Chooser<W> {
         ensures step { self.new.kept ≡ offered (by_weight W.at_most) self.old.kept candidate }
         ensures choice { (row : List (Candidate W)) → Choice (by_weight W.at_most) row self.old.kept → Choice (by_weight W.at_most) (row ++ (candidate ∷ [])) self.new.kept }
     {
-        // By a name of its own: the checker does not cover a match that binds what lies behind `&mut self`.
+        // By names of their own, and set as a whole: the checker does not cover a match that binds what lies behind `&mut self`.
         let earlier = self.kept;
         let kept = match earlier {
             Some(kept) if kept.weight.at_most(&candidate.weight) => Some(kept),

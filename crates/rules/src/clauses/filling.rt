@@ -13,7 +13,7 @@ use crate::row_buffer::RowBuffer;
 /// The most clauses that a book takes.
 const MOST_CLAUSES: usize = 65_535;
 
-// What is alike in both books is `RowBuffer`; what stands here counts the clauses, of which a book takes so many.
+// Not one generic book: what is alike in both is `RowBuffer`; of each call only a few lines are left, and this kind counts its clauses.
 impl<'a> ClauseBook<'a> {
     /// An empty book of so many variables over all the words, which become 0. More than 1,000 variables count as none.
     pub fn open(words: &'a mut [i32], variables: u32) -> ClauseBook<'a>

@@ -21,7 +21,8 @@ fn limit_word(limit: u32) -> i32
     limit.min(MOST_LIMIT) as i32 + 1
 }
 
-// What is alike in both books is `RowBuffer`; what stands here goes by a group's limit and by its rising variables.
+// Not one generic book: what is alike in both is `RowBuffer`; of each call only a few lines are left, and this kind has a limit and
+// rising variables.
 impl<'a> GroupBook<'a> {
     /// An empty book of so many variables over all the words, which become 0. More than 1,000 variables count as none.
     pub fn open(words: &'a mut [i32], variables: u32) -> GroupBook<'a>
