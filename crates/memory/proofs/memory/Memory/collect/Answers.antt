@@ -8,21 +8,6 @@ use Rattle.memory.proofs.Collecting.{Collected, collected_skip, collected_add, n
 use Rattle.memory.proofs.memory.Memory.collect.Goals as goal
 use Rattle.memory.proofs.memory.Memory.collect.Goals.{then-value-ne0+then-holds, else-value-ne0, else-value-ne0-via-then-value-ne0+else-holds, else-value-ne0-via-else-value-ne0}
 
-pub loop-x-init : goal.loop-x-init
-loop-x-init c = record { many = refl; most = omega arith; front = refl }
-
-pub bounds-clause-count : goal.bounds-clause-count
-bounds-clause-count c =
-    let m = c.args.self.now in
-    let big = m.sound.coherent.big in
-    let s = c.split_at_mut-front.ensures in
-    let v = value_front m c.split_at_mut-front.result.0.now c.loop-x.x s.front c.loop-x-test.true in
-    let inside = v.0 in
-    let back = s.back_len in
-    let most = c.loop-x.invariant.most in
-    let auto = c.loop-x.auto.clause in
-    omega arith
-
 pub overflow_sub-clause : goal.overflow_sub-clause
 overflow_sub-clause c =
     let m = c.args.self.now in
@@ -73,9 +58,3 @@ pub returns-clause-clause : goal.returns-clause-clause
 returns-clause-clause c =
     let s = c.split_at_mut-front.ensures in
     collected_clause c.args.self.now (held c.args.scratch.now) c.loop-x.x c.loop-x.count c.split_at_mut-front.result.0.now c.split_at_mut-front.result.1.now c.loop-x.clause s.front s.back c.loop-x.auto.x-end c.loop-x-test.false c.loop-x.invariant
-
-pub returns-clause-frame : goal.returns-clause-frame
-returns-clause-frame c =
-    let s = c.split_at_mut-front.ensures in
-    let f = collected_frame c.args.self.now (held c.args.scratch.now) c.loop-x.x c.loop-x.count c.split_at_mut-front.result.0.now c.split_at_mut-front.result.1.now c.loop-x.clause s.front s.back c.loop-x.auto.x-end c.loop-x-test.false c.loop-x.invariant in
-    record { layout = refl; extent = refl; size = f.0; outside = f.1 }
