@@ -1,5 +1,5 @@
 //! An idle session: it takes assumptions, begins a search, or ends.
-ghost use Rattle.std.specs.Prelude.{◌≡◌, ◌≤◌, [], ◌∷◌, ◌++◌, length, replicate, pos, is_ok, OnErr, if◌then◌else◌};
+ghost use Rattle.std.specs.Prelude.{◌≡◌, ◌≤◌, [], ◌∷◌, ◌++◌, length, take, replicate, ◌-◌, ◌*◌, pos, is_ok, slice_set, OnErr, if◌then◌else◌};
 ghost use Rattle.theory.specs.Calls.{Call.assume as assuming, Call.clear as clearing, Call.begin as beginning, Call.close as closing, Reply.done, State.idle, State.closed, begun};
 ghost use Rattle.memory.specs.Words.{size};
 ghost use Rattle.memory.specs.Reports.{granted_as};
@@ -67,7 +67,7 @@ impl<'a> Idle<'a> {
         ensures slots { result.layout.slots ≡ (if fitting variables slots (length words.old) then slots else 0) }
         ensures assumptions { standing result ≡ [] }
         ensures opens { Lived result.layout.variables result.layout.slots [] (idle_state result) }
-        ensures size { length result.words.now ≡ length words.old }
+        ensures words { result.words.now ≡ words.old }
     {
         let layout = fitted(variables, slots, words.len());
         Idle {
@@ -82,9 +82,9 @@ impl<'a> Idle<'a> {
         ensures answer { result ≡ assume_answer self.old.layout.variables (length (standing self.old)) literal }
         ensures assumptions { standing self.new ≡ (if is_ok result then standing self.old ++ (literal ∷ []) else standing self.old) }
         ensures promised { Promised self.old.layout.variables self.old.layout.slots (idle_state self.old) (assuming literal) (granted_as result) (idle_state self.new) }
+        ensures words { self.new.words.now ≡ (if is_ok result then slice_set self.old.words.now self.old.assumptions literal else self.old.words.now) }
         ensures unchanged { OnErr result (self.new ≡ self.old) }
         ensures layout { self.new.layout ≡ self.old.layout }
-        ensures size { length self.new.words.now ≡ length self.old.words.now }
     {
         if !is_in_range(literal, self.layout.variables as u32) {
             return Err(Refusal::NoVariable);
@@ -102,7 +102,7 @@ impl<'a> Idle<'a> {
         ensures assumptions { standing self.new ≡ [] }
         ensures promised { Promised self.old.layout.variables self.old.layout.slots (idle_state self.old) clearing done (idle_state self.new) }
         ensures layout { self.new.layout ≡ self.old.layout }
-        ensures size { length self.new.words.now ≡ length self.old.words.now }
+        ensures words { self.new.words.now ≡ self.old.words.now }
     {
         self.assumptions = 0;
     }
@@ -112,7 +112,7 @@ impl<'a> Idle<'a> {
         ensures search { search_in result.progress ≡ begun (standing self.entry) }
         ensures promised { Promised self.entry.layout.variables self.entry.layout.slots (idle_state self.entry) beginning done (search_state result) }
         ensures layout { result.progress.memory.layout ≡ self.entry.layout }
-        ensures size { length result.progress.memory.words.now ≡ length self.entry.words.now }
+        ensures words { result.progress.memory.words.now ≡ take (2 * self.entry.layout.variables) self.entry.words.now ++ replicate (length self.entry.words.now - 2 * self.entry.layout.variables) (pos 0) }
     {
         let Idle {
             words,

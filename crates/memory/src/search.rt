@@ -5,7 +5,6 @@ ghost use Rattle.theory.specs.Events.{Event};
 ghost use Rattle.theory.specs.Promise.{Promise};
 ghost use Rattle.memory.specs.Guides.{guided};
 ghost use Rattle.memory.specs.Memories.{Keeps};
-ghost use Rattle.memory.specs.Searches.{search_in};
 ghost use Rattle.memory.specs.Reports.{reported_as, refusal_of};
 ghost use Rattle.memory.specs.Sessions.{search_state, settled_state, Lived, Promised, run_refusal, scratch_after};
 
@@ -85,11 +84,8 @@ impl<'a> Search<'a> {
 
     /// Settles the search.
     pub fn settle(self) -> Settled<'a>
-        ensures search { search_in result.progress ≡ search_in self.entry.progress }
+        ensures progress { result.progress ≡ self.entry.progress }
         ensures promised { Promised self.entry.progress.memory.layout.variables self.entry.progress.memory.layout.slots (search_state self.entry) settling done (settled_state result) }
-        ensures layout { result.progress.memory.layout ≡ self.entry.progress.memory.layout }
-        ensures verdict { result.progress.verdict ≡ self.entry.progress.verdict }
-        ensures size { length result.progress.memory.words.now ≡ length self.entry.progress.memory.words.now }
     {
         let Search {
             progress,

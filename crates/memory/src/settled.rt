@@ -1,5 +1,5 @@
 //! A settled session: its verdict, its values and what it names can be read.
-ghost use Rattle.std.specs.Prelude.{◌≡◌, length};
+ghost use Rattle.std.specs.Prelude.{◌≡◌};
 ghost use Rattle.theory.specs.Calls.{Call.verdict as asking, Call.value as valuing, Call.named as naming, Call.reopen as reopening, Reply.done, Reply.found as finds};
 ghost use Rattle.memory.specs.Reports.{verdict_of, said_as};
 ghost use Rattle.memory.specs.Searches.{search_in, failed_is};
@@ -54,7 +54,7 @@ impl<'a> Settled<'a> {
         ensures assumptions { standing result ≡ (search_in self.entry.progress).position.assumptions }
         ensures promised { Promised self.entry.progress.memory.layout.variables self.entry.progress.memory.layout.slots (settled_state self.entry) reopening done (idle_state result) }
         ensures layout { result.layout ≡ self.entry.progress.memory.layout }
-        ensures size { length result.words.now ≡ length self.entry.progress.memory.words.now }
+        ensures words { result.words.now ≡ self.entry.progress.memory.words.now }
     {
         let Settled { progress } = self;
         let Progress {
