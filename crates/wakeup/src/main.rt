@@ -11,13 +11,13 @@
 #![tactic(auto)]
 
 use anyhow::anyhow;
-use memory::report::{self, Verdict};
-use memory::{Idle, Search, Settled};
 use rules::clauses::ClauseBook;
 use rules::groups::GroupBook;
 use rules::join::Join;
 use rules::refusal::Refusal;
 use rules::source::Source;
+use session::report::{self, Verdict};
+use session::{Idle, Search, Settled};
 use std::io;
 use weights::weighers::ByStanding;
 

@@ -1,5 +1,0 @@
-use Rattle.memory.proofs.Undoing.{Undone}
-use Rattle.memory.proofs.memory.Memory.undo_marked.Given as goal
-
-abbrev pub invariant-loop-place : goal.invariant-loop-place
-invariant-loop-place l = Undone l.layout.variables l.place l.left l.initial.words l.words

@@ -1,8 +1,0 @@
-use Rattle.std.proofs.Common.{[]}
-use Rattle.theory.specs.Calls.{Call.clear, Reply.done, State.idle, Next.clears}
-use Rattle.memory.specs.Sessions.{idle_state}
-use Rattle.memory.proofs.Promising.{promised}
-use Rattle.memory.proofs.states.Idle.clear.Goals as goal
-
-pub returns-clause-promised : goal.returns-clause-promised
-returns-clause-promised c = let s = c.args.self.now in promised s.layout.variables s.layout.slots (idle_state s) clear done (idle []) tt clears
