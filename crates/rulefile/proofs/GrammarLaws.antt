@@ -290,16 +290,16 @@ head_sound c g ts b e = by (opening ts) refl e
             }
 
 -- a head as it is read
-record HeadRead (ts : List Seen) (n m : ℕ) (after : List Seen) : Type 0 where
-  variables : Number ℕ
-  count : Number ℕ
-  rest : List Seen
-  opens : opening ts ≡ Ok (variables, rest)
-  counts : count_next 65535 rest ≡ Ok (count, after)
-  variables_is : variables.value ≡ n
-  count_is : count.value ≡ m
+pub record HeadRead (ts : List Seen) (n m : ℕ) (after : List Seen) : Type 0 where
+  pub variables : Number ℕ
+  pub count : Number ℕ
+  pub rest : List Seen
+  pub opens : opening ts ≡ Ok (variables, rest)
+  pub counts : count_next 65535 rest ≡ Ok (count, after)
+  pub variables_is : variables.value ≡ n
+  pub count_is : count.value ≡ m
 
-head_read : (ts : List Seen) (n m : ℕ) (after : List Seen) → HeadIn ts n m after → HeadRead ts n m after
+pub head_read : (ts : List Seen) (n m : ℕ) (after : List Seen) → HeadIn ts n m after → HeadRead ts n m after
 head_read ts0 n0 m0 after0 (head p q r s v w n m after hn hm) = record {
   variables = record { value = n; at = r };
   count = record { value = m; at = s };

@@ -3,6 +3,6 @@ mod WordLaws
 mod FormLaws
 mod RuleLaws
 mod FillingLaws
-mod GrammarLaws
+pub mod GrammarLaws
 pub mod Theorem
 mod PlaceLaws

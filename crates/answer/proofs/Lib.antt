@@ -1,0 +1,4 @@
+pub mod Searches
+pub mod Readings
+pub mod Truth
+pub mod Promising

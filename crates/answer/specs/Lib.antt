@@ -1,0 +1,4 @@
+pub mod Lines
+pub mod Reading
+pub mod Searching
+pub mod Answers
