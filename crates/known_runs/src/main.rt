@@ -127,10 +127,8 @@ const CLAUSE_SEARCHES: [ClauseSearch<'static>; 7] = [
         clauses: &ALL_FOUR,
         weights: &EQUAL,
         setting: Setting {
-            slots: 0,
-            assumptions: &[],
             limits: &[3, 1],
-            detail: Detail::Brief,
+            ..USUAL
         },
     },
     ClauseSearch {
@@ -138,12 +136,7 @@ const CLAUSE_SEARCHES: [ClauseSearch<'static>; 7] = [
         variables: 5,
         clauses: &TWO_DECISIONS,
         weights: &HEAVY_3,
-        setting: Setting {
-            slots: 1,
-            assumptions: &[],
-            limits: &[AMPLE],
-            detail: Detail::Brief,
-        },
+        setting: Setting { slots: 1, ..USUAL },
     },
     ClauseSearch {
         title: "The same without a slot, so that only the latest decision can be undone",
@@ -158,10 +151,8 @@ const CLAUSE_SEARCHES: [ClauseSearch<'static>; 7] = [
         clauses: &[&[-1, 2], &[-2, -3]],
         weights: &EQUAL,
         setting: Setting {
-            slots: 0,
             assumptions: &[4, 1, 3],
-            limits: &[AMPLE],
-            detail: Detail::Brief,
+            ..USUAL
         },
     },
 ];
