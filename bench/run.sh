@@ -6,8 +6,9 @@
 # Taken are those twelve files at which decide reports the most steps, of the files that it accepts, that have no groups, and that all the
 # others read as well: they know no groups, and of the layout of a file they allow less.
 # Each solver gets the file on standard input and is measured as a whole process, with its reading of the file and the printing of a
-# model. Instructions are counted by callgrind; the time is the median of hyperfine's runs, without the shell's start. A ratio
-# above 1 says that decide takes more. Where decide gives a verdict, all four have to give the same.
+# model. Instructions are counted by callgrind. Times are told by hyperfine: one run starts the solver twenty times, since one start is
+# too short to be timed, and the shortest of five runs counts, since other work may run beside. A ratio above 1 says that decide takes more.
+# Where decide gives a verdict, all four have to give the same.
 set -euo pipefail
 
 fail() {
@@ -18,6 +19,7 @@ fail() {
 top=$(cd "$(dirname "$0")/.." && pwd -P)
 folder=${1:-$top/crates/vectors/data}
 count=12
+starts=20
 solvers=(decide minisat picosat cadical)
 
 [ -d "$folder" ] || fail "no folder $folder"
@@ -74,10 +76,18 @@ instructions_of() {
         sed -n 's/.*Collected : \([0-9]*\).*/\1/p'
 }
 
-# Prints how many seconds a solver takes for the file at hand, the median.
+# A script that starts the given command so many times on the file at hand.
+cat >"$work/start" <<END
+for _ in $(seq -s ' ' "$starts"); do
+    \$1 <$work/rules >/dev/null 2>&1
+done
+END
+
+# Prints how many seconds a solver takes for the file at hand.
 seconds_of() {
-    hyperfine --style none --ignore-failure --warmup 3 --export-csv "$work/csv" "${command[$1]} <$work/rules" >/dev/null 2>&1
-    sed -n 2p "$work/csv" | awk -F, '{ print $(NF - 4) }'
+    hyperfine -N --style none --ignore-failure --warmup 1 --runs 5 --export-csv "$work/csv" \
+        "sh $work/start '${command[$1]}'" >/dev/null 2>&1
+    sed -n 2p "$work/csv" | awk -F, -v starts="$starts" '{ print $(NF - 1) / starts }'
 }
 
 # Prints a row of a table: its first cells, what decide took in a unit, and what it took to what each other solver took.
