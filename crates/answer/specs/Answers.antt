@@ -1,5 +1,6 @@
 -- What `decide` prints for a file, and what that says of the file.
 use Rattle.std.specs.Prelude.{◌≡◌, ℕ, ◌≤◌, Bool, true, List, [], ◌++◌, length, take, Ok, Err, codes}
+use Rattle.std.specs.Fmt.{decimal}
 use Rattle.rulefile.specs.Words.{seen_in}
 use Rattle.rulefile.specs.Faults.{Fault, named}
 use Rattle.rulefile.specs.Outcomes.{Rule, Books, fresh}
@@ -52,10 +53,19 @@ pub record Satisfied (text printed : List ℕ) : Type 0 where
   pub rest : List ℕ
   pub shown : printed ≡ line (values_text (true_literals variables values)) ++ rest
 
+-- The file can be read, and this begins by saying that all 1,000,000 steps were taken.
+pub record Undecided (text printed : List ℕ) : Type 0 where
+  pub variables : ℕ
+  pub rules : List Rule
+  pub readable : Readable text variables rules
+  pub rest : List ℕ
+  pub shown : printed ≡ codes "c steps " ++ (decimal 1000000 ++ rest)
+
 -- What the first words that are printed say of the file.
 pub record Truthful (text printed : List ℕ) : Type 0 where
   pub unsatisfiable : (rest : List ℕ) → printed ≡ line (codes "s UNSATISFIABLE") ++ rest → Unsatisfiable text
   pub satisfiable : (rest : List ℕ) → printed ≡ line (codes "s SATISFIABLE") ++ rest → Satisfied text rest
+  pub unknown : (rest : List ℕ) → printed ≡ line (codes "s UNKNOWN") ++ rest → Undecided text rest
   pub refused : (rest : List ℕ) → printed ≡ codes "refused" ++ rest → (n : ℕ) (rules : List Rule) → Readable text n rules → ⊥
 
 -- What is promised of a printed text: it is the defined one, no other text is, and it is truthful.

@@ -44,10 +44,13 @@ with_values paused ls lines = lines
 with_values model ls lines = line (values_text ls) ++ lines
 with_values refuted ls lines = lines
 
--- what a run reports
+-- what a run reports: its steps, and what they were
+abbrev pub kinds_text : Report → List ℕ
+kinds_text r = codes " assumed " ++ (decimal r.assumed ++ (codes " decided " ++ (decimal r.decided ++ (codes " implied " ++ (decimal r.implied
+    ++ (codes " conflicts " ++ (decimal r.conflicts ++ (codes " undone " ++ decimal r.undone))))))))
+
 abbrev pub counts_text : Report → List ℕ
-counts_text r = codes "c steps " ++ (decimal r.steps ++ (codes " assumed " ++ (decimal r.assumed ++ (codes " decided " ++ (decimal r.decided
-    ++ (codes " implied " ++ (decimal r.implied ++ (codes " conflicts " ++ (decimal r.conflicts ++ (codes " undone " ++ decimal r.undone))))))))))
+counts_text r = codes "c steps " ++ (decimal r.steps ++ kinds_text r)
 
 -- a verdict, the literals that are true, and a run's report
 abbrev pub answer_lines : Verdict → List ℤ → Report → List ℕ

@@ -1,11 +1,13 @@
 -- Laws of values and of statuses, literal by literal.
-use Rattle.std.proofs.Common.{◌≡◌, Bool, true, false, cond, not, List, [], ◌∷◌, ◌++◌, ℤ, neg_ℤ, sym, refl, ap, ◌∙◌}
+use Rattle.std.proofs.Common.{◌≡◌, ℕ, ◌+◌, ◌<◌, Bool, true, false, cond, not, List, [], ◌∷◌, ◌++◌, take, drop, length, get_or, ℤ, pos, neg_ℤ, sym, refl, ap, ◌∙◌, append_assoc, take-append-drop}
 use Rattle.std.proofs.lemmas.List.Elements.{filter-append}
-use Rattle.std.proofs.lemmas.List.{append-nil}
+use Rattle.std.proofs.lemmas.List.{append-nil, take_more}
 use Rattle.std.proofs.lemmas.Bool.{both_ways}
 use Rattle.rules.specs.Clauses.{Status.falsified, Status.unit, Status.other, loose, by_loose, status}
 use Rattle.rules.specs.Values.{value_in, kind_of, with_value}
+use Rattle.rules.specs.declared.literal.Value.{Value}
 use Rattle.rules.specs.declared.literal.Value.TheVariants.{True, False, Unassigned}
+use Rattle.rules.specs.declared.status.ClauseStatus.{ClauseStatus}
 use Rattle.rules.specs.declared.status.ClauseStatus.TheVariants.{Other}
 
 -- the literals that are not false, with one more
@@ -47,3 +49,27 @@ status_push f ls l one = ap (λ k. kind_of (by_loose f k)) (loose_push f ls l) �
         not_both : (b : Bool) → f l ≡ b → f l ≡ false
         not_both true i = absurd (both_ways (f (neg_ℤ l)) (one i) e)
         not_both false i = i
+
+-- the status of a clause's literals so far, with the next one
+pub status_next : (f : ℤ → Bool) → ((l : ℤ) → f l ≡ true → f (neg_ℤ l) ≡ false) → (ls : List ℤ) (i : ℕ) {s s' : ClauseStatus} {v : Value} → i < length ls
+    → s ≡ kind_of (status f (take i ls)) → v ≡ value_in f (get_or ls i (pos 0)) → s' ≡ with_value s v → s' ≡ kind_of (status f (take (i + 1) ls))
+status_next f one ls i low es ev e =
+    let l = get_or ls i (pos 0) in
+    e ∙ rw (es, ev) (sym (status_push f (take i ls) l (one l))) ∙ ap (λ k. kind_of (status f k)) (sym (take_more ls i (pos 0) low))
+
+-- a status that is neither falsified nor unit stays so, whatever literals follow
+other_with : (v : Value) → with_value Other v ≡ Other
+other_with True = refl
+other_with False = refl
+other_with Unassigned = refl
+
+other_stays : (f : ℤ → Bool) → ((l : ℤ) → f l ≡ true → f (neg_ℤ l) ≡ false) → (ls ms : List ℤ) → kind_of (status f ls) ≡ Other → kind_of (status f (ls ++ ms)) ≡ Other
+other_stays f one ls [] e = ap (λ k. kind_of (status f k)) (append-nil ls) ∙ e
+other_stays f one ls (l ∷ ms) e =
+    let more = status_push f ls l (one l) ∙ ap (λ s. with_value s (value_in f l)) e ∙ other_with (value_in f l) in
+    ap (λ k. kind_of (status f k)) (sym (append_assoc ls (l ∷ []) ms)) ∙ other_stays f one (ls ++ (l ∷ [])) ms more
+
+-- so it is known from the literals so far
+pub other_known : (f : ℤ → Bool) → ((l : ℤ) → f l ≡ true → f (neg_ℤ l) ≡ false) → (ls : List ℤ) (i : ℕ) (s : ClauseStatus) → s ≡ kind_of (status f (take i ls)) → s ≡ Other
+    → s ≡ kind_of (status f ls)
+other_known f one ls i s e o = o ∙ sym (other_stays f one (take i ls) (drop i ls) (sym e ∙ o)) ∙ ap (λ k. kind_of (status f k)) (take-append-drop i ls)

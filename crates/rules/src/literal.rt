@@ -40,7 +40,7 @@ pub fn value_of(literal: i32, valuation: &[i32]) -> Value
     let held = valuation[variable - 1];
     if held == literal {
         Value::True
-    } else if held.unsigned_abs() == literal.unsigned_abs() {
+    } else if held == literal.wrapping_neg() {
         Value::False
     } else {
         Value::Unassigned

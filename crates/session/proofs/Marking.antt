@@ -1,10 +1,11 @@
 -- The marks tell the chunk of a literal, from the oldest place of the trail on.
-use Rattle.std.proofs.Common.{◌≡◌, ℕ, suc, ◌+◌, ◌*◌, ◌<◌, Bool, true, false, eqb, ◌≢◌, List, ℤ, neg_ℤ, nat_abs, sym, refl, ap, ◌∙◌, subst, inl, inr, add-one, arith}
+use Rattle.std.proofs.Common.{◌≡◌, ℕ, suc, ◌+◌, ◌*◌, ◌<◌, Bool, true, false, eqb, ◌≢◌, List, ℤ, neg_ℤ, nat_abs, pos, sym, refl, ap, ◌∙◌, subst, inl, inr, add-one, arith}
 use Rattle.std.proofs.lemmas.Bool.{cond_both, or_parts, both_ways}
 use Rattle.rules.specs.Literals.{same}
 use Rattle.rules.proofs.Literals.{same_true, eq_same, all_has, has_all}
-use Rattle.theory.specs.Trail.{Entry, Entry.assumed, Entry.decided, Entry.implied, Trail, on, Grounded}
+use Rattle.theory.specs.Trail.{Entry, Entry.assumed, Entry.decided, Entry.implied, Trail, on, Grounded, WellFormed}
 use Rattle.theory.specs.Chunks.{joins, in_chunk}
+use Rattle.theory.proofs.Chunks.{no_chunk}
 use Rattle.theory.proofs.Trails.{AllFalse, meets, meets_cong, on_range}
 use Rattle.session.specs.Words.{word_at, index_of, trail_at, mark_at, row_at, Wrote, Outside}
 use Rattle.session.specs.Decode.{entry_of, entry_at, trail_of, marked, bit, Marked, Coherent}
@@ -18,6 +19,13 @@ bit_is false = refl
 -- the marks as a test
 pub marked_is : (n : ℕ) (t : Trail) (test : ℤ → Bool) (ws : List ℤ) → Marked n t test ws → (l : ℤ) → on t l ≡ true → marked n ws l ≡ test l
 marked_is n t test ws m l o = rw (m.on_trail l o) (bit_is (test l))
+
+-- where the literal is not on the trail and no variable is marked, the marks tell its chunk, which is empty
+pub nothing_marked : (n : ℕ) (t : Trail) (d : ℤ) (ws : List ℤ) → WellFormed n t → on t d ≡ false → ((x : ℕ) → x < n → word_at ws (mark_at n x) ≡ pos 0) → Marked n t (in_chunk d t) ws
+nothing_marked n t d ws formed o clear = record {
+  on_trail = λ l g. clear (index_of l) (index_range n l (on_range n t formed l g)).1 ∙ ap bit (sym (no_chunk d t o l));
+  off_trail = λ l g f f'. clear (index_of l) (index_range n l g).1;
+}
 
 -- a false clause meets what the tests of true literals say
 pub meets_false : (t : Trail) (f g : ℤ → Bool) → ((l : ℤ) → on t l ≡ true → f l ≡ g l) → (C : List ℤ) → AllFalse t C → meets f C ≡ meets g C

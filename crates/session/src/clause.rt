@@ -35,15 +35,18 @@ impl Memory<'_> {
 }
 
 /// The status of a clause.
-// The clause book has the same as a loop: there it is, by a rule of the project, nested in the one over the clauses.
+// The clause book has the same loop: there it is, by a rule of the project, nested in the one over the clauses.
 pub(crate) fn clause_status(clause: &[i32], values: &[i32]) -> ClauseStatus
     ensures { result ≡ kind_of (status (true_in values.now) clause.now) }
 {
-    clause
-        .iter()
-        .fold(ClauseStatus::Falsified, |status, literal| {
-            status.with(value_of(*literal, values))
-        })
+    let mut status = ClauseStatus::Falsified;
+    for literal in clause {
+        status = status.with(value_of(*literal, values));
+        if status == ClauseStatus::Other {
+            break;
+        }
+    }
+    status
 }
 
 /// The number, from 0, of a clause's first unassigned literal, if it has one.

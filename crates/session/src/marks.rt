@@ -20,8 +20,8 @@ impl Memory<'_> {
         ensures frame { Framed (5 * self.old.layout.variables) self.old.layout.variables self.old self.new }
     {
         self.clear_marks();
-        // The literals read and the marks written are of one slice, so the literals go by their places.
-        for place in 0..self.extent.trail {
+        // No older literal is in the chunk. The literals read and the marks written are of one slice, so the literals go by their places.
+        for place in root..self.extent.trail {
             let x = self.variable(place);
             let joined = self.joins(root, place);
             self.set_mark(x, joined);

@@ -101,7 +101,7 @@ goes_verdict n L g (ends {p = p} v ns e) = inr (end_ended n g.source p e)
 goes_verdict n L g (pauses h) = inl refl
 goes_verdict n L g (steps k u p' st go) = goes_verdict n L g go
 
-run_verdict : (n L : ℕ) (g : Guide) {limit : ℕ} {q : Search} {r : Report} {q' : Search} → Run n L g limit q r q' → (r.verdict ≡ paused) ⊎ (ended r.verdict ≡ true)
+pub run_verdict : (n L : ℕ) (g : Guide) {limit : ℕ} {q : Search} {r : Report} {q' : Search} → Run n L g limit q r q' → (r.verdict ≡ paused) ⊎ (ended r.verdict ≡ true)
 run_verdict n L g (again e) = inr e
 run_verdict n L g (goes e go) = goes_verdict n L g go
 

@@ -19,6 +19,9 @@ impl SealedClauses<'_> {
             let mut status = ClauseStatus::Falsified;
             for literal in clause {
                 status = status.with(value_of(*literal, valuation));
+                if status == ClauseStatus::Other {
+                    break;
+                }
             }
             match status {
                 ClauseStatus::Falsified => {

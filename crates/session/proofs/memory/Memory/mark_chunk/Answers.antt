@@ -1,10 +1,25 @@
-use Rattle.std.proofs.Common.{◌≡◌, ◌<◌, sym, ap, ◌∙◌, subst, arith, ◌*◌}
+use Rattle.std.proofs.Common.{◌≡◌, ◌<◌, sym, ap, ◌∙◌, subst, arith, ◌*◌, ℕ, pos, rules}
 use Rattle.theory.specs.Chunks.{joins, in_chunk}
-use Rattle.session.specs.Words.{index_of, trail_at, mark_at, Wrote}
+use Rattle.session.specs.Words.{word_at, index_of, trail_at, mark_at, Wrote}
 use Rattle.session.specs.Decode.{literal_at, trail_of, entry_at, bit, marked, Marked}
-use Rattle.session.proofs.Marking.{marked_more}
+use Rattle.session.proofs.Decode.{front_formed, place_at}
+use Rattle.session.proofs.Marking.{nothing_marked, marked_more}
 use Rattle.session.proofs.Planning.{framed_next, marks_marked}
 use Rattle.session.proofs.memory.Memory.mark_chunk.Goals as goal
+
+pub loop-place-init : goal.loop-place-init
+loop-place-init c =
+    let was = c.clear_marks.new.self in
+    let n = was.layout.variables in
+    let root = c.args.root in
+    let st = was.sound.coherent in
+    let rooted = subst (λ e. root < e.trail) (sym c.clear_marks.ensures.frame.extent) c.requires in
+    record {
+      frame = search rules;
+      marked = nothing_marked n (trail_of n root was.words.now) (literal_at n was.words.now root) was.words.now (front_formed n was.extent.trail was.words.now st.formed root (omega arith))
+          (place_at n was.extent.trail was.words.now st.formed root rooted).new
+          (subst (λ y. (x : ℕ) → x < y.variables → word_at was.words.now (mark_at y.variables x) ≡ pos 0) (sym c.clear_marks.ensures.frame.layout) c.clear_marks.ensures.cleared);
+    }
 
 pub loop-place-preserved : goal.loop-place-preserved
 loop-place-preserved c =
@@ -35,6 +50,7 @@ returns-clause-marked c =
     let was = c.clear_marks.new.self in
     let n = was.layout.variables in
     let now = c.loop-place.self.words.now in
+    let rooted = subst (λ e. c.args.root < e.trail) (sym c.clear_marks.ensures.frame.extent) c.requires in
     let e : c.loop-place.place ≡ was.extent.trail = omega arith in
     marks_marked c.args.self.now was c.clear_marks.ensures.frame c.args.root c.requires now
     (subst (λ p. Marked n (trail_of n p was.words.now) (in_chunk (literal_at n was.words.now c.args.root) (trail_of n p was.words.now)) now) e c.loop-place.invariant.marked)
