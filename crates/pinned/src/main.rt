@@ -1,8 +1,8 @@
 //! Who keeps watch: a source of rules and a weigher of one's own, beside a clause book, in a session. It is there to be copied.
 //!
 //! Variable v, from 1 to 5, says that person v keeps watch. A clause book has the rules, and one literal is pinned besides. With
-//! Eva pinned the search finds a watch; on its way Ann and Ben are in each other's way, and Ben, who was asked later, is the
-//! lighter one. With Ben pinned it refutes that there is a watch.
+//! Eva pinned the search finds a watch; its one conflict may undo Ann's chunk or Ben's, and undoes Ben's, which stands later on the
+//! trail and is the lighter one. With Ben pinned it refutes that there is a watch.
 #![tactic(auto)]
 
 mod source;
@@ -88,7 +88,7 @@ fn fill(book: &mut ClauseBook) -> Result<(), Refusal> {
 
 /// Searches the rules with a literal pinned besides.
 fn find<S: Source>(rules: &S, literal: i32) -> anyhow::Result<Finding> {
-    let pinned = Pinned::new(VARIABLES, literal).ok_or(anyhow!("nobody has that number"))?;
+    let pinned = Pinned::new(VARIABLES, literal).ok_or_else(|| anyhow!("nobody has that number"))?;
     let both = Join {
         first: rules,
         second: &pinned,
