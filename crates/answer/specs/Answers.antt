@@ -16,9 +16,9 @@ use Rattle.answer.specs.Searching.{Searched}
 -- the lines of an answer
 abbrev pub answer_text : Answer → List ℕ
 answer_text (Refused fault) = refusal_line (named fault)
-answer_text (Satisfiable m report) = answer_lines model (take m.count m.literals) (report_of report)
-answer_text (Impossible report) = answer_lines refuted [] (report_of report)
-answer_text (Unknown report) = answer_lines paused [] (report_of report)
+answer_text (Satisfiable m counts) = answer_lines model (take m.count m.literals) (report_of counts.0)
+answer_text (Impossible counts) = answer_lines refuted [] (report_of counts.0)
+answer_text (Unknown counts) = answer_lines paused [] (report_of counts.0)
 
 -- A refused file gives its fault; any other the lines of a search of the rules that its books hold.
 pub data Printed (text : List ℕ) : List ℕ → Type 0 where

@@ -15,11 +15,11 @@ pub enum Answer {
     /// The file is refused.
     Refused(Fault),
     /// The values of the model obey all rules.
-    Satisfiable { model: Model, report: Report },
+    Satisfiable { model: Model, counts: Counts },
     /// No values obey all rules.
-    Unsatisfiable { report: Report },
+    Unsatisfiable { counts: Counts },
     /// The search has not ended within its steps.
-    Unknown { report: Report },
+    Unknown { counts: Counts },
 }
 
 /// Prints the lines of an answer.
@@ -29,20 +29,21 @@ impl fmt::Display for Answer {
     fn fmt<W: fmt::Write>(&self, f: &mut fmt::Formatter<W>) -> fmt::Result {
         match self {
             Answer::Refused(fault) => writeln!(f, "refused {fault}"),
-            Answer::Satisfiable { model, report } => {
+            Answer::Satisfiable { model, counts } => {
                 writeln!(f, "s SATISFIABLE")?;
                 writeln!(f, "{model}")?;
-                writeln!(f, "{}", Counts(*report))
+                writeln!(f, "{counts}")
             }
-            Answer::Unsatisfiable { report } => writeln!(f, "s UNSATISFIABLE\n{}", Counts(*report)),
-            Answer::Unknown { report } => writeln!(f, "s UNKNOWN\n{}", Counts(*report)),
+            Answer::Unsatisfiable { counts } => writeln!(f, "s UNSATISFIABLE\n{counts}"),
+            Answer::Unknown { counts } => writeln!(f, "s UNKNOWN\n{counts}"),
         }
     }
 }
 
-/// A report, which prints its counts.
+/// The report of a run, of which its counts can be printed.
+// No more of it can be seen: what is printed is all that is promised.
 #[derive(Clone, Copy)]
-struct Counts(Report);
+pub struct Counts(pub(crate) Report);
 
 impl fmt::Display for Counts {
     ghost output = { λ counts. Some (counts_text (report_of counts.0)) };

@@ -5,7 +5,7 @@ ghost use Rattle.answer.specs.Lines.{true_literal as literal_by, true_literals a
 ghost use Rattle.answer.specs.Searching.{Searched, variables_of, values_of};
 ghost use Rattle.answer.specs.Answers.{answer_text};
 
-use crate::answers::Answer;
+use crate::answers::{Answer, Counts};
 use crate::model::{MOST_VALUES, Model};
 use rules::source::Source;
 use session::report::Verdict;
@@ -32,14 +32,15 @@ pub(crate) fn search<S: Source>(rules: &S) -> Answer
     let report = search
         .run(MOST_STEPS, rules, &[], &ByStanding, &mut scratch)
         .unwrap();
+    let counts = Counts(report);
     let settled = search.settle();
     let answer = match settled.verdict() {
         Verdict::Model => Answer::Satisfiable {
             model: model_of(&settled, rules.variables() as usize),
-            report,
+            counts,
         },
-        Verdict::Refuted => Answer::Unsatisfiable { report },
-        Verdict::Open | Verdict::Paused => Answer::Unknown { report },
+        Verdict::Refuted => Answer::Unsatisfiable { counts },
+        Verdict::Open | Verdict::Paused => Answer::Unknown { counts },
     };
     settled.reopen().close();
     answer

@@ -69,7 +69,8 @@ other_stays f one ls (l ∷ ms) e =
     let more = status_push f ls l (one l) ∙ ap (λ s. with_value s (value_in f l)) e ∙ other_with (value_in f l) in
     ap (λ k. kind_of (status f k)) (sym (append_assoc ls (l ∷ []) ms)) ∙ other_stays f one (ls ++ (l ∷ [])) ms more
 
--- so it is known from the literals so far
-pub other_known : (f : ℤ → Bool) → ((l : ℤ) → f l ≡ true → f (neg_ℤ l) ≡ false) → (ls : List ℤ) (i : ℕ) (s : ClauseStatus) → s ≡ kind_of (status f (take i ls)) → s ≡ Other
-    → s ≡ kind_of (status f ls)
-other_known f one ls i s e o = o ∙ sym (other_stays f one (take i ls) (drop i ls) (sym e ∙ o)) ∙ ap (λ k. kind_of (status f k)) (take-append-drop i ls)
+-- so it is known once a literal has made it so
+pub status_left : (f : ℤ → Bool) → ((l : ℤ) → f l ≡ true → f (neg_ℤ l) ≡ false) → (ls : List ℤ) (i : ℕ) {s s' : ClauseStatus} {v : Value} → i < length ls
+    → s ≡ kind_of (status f (take i ls)) → v ≡ value_in f (get_or ls i (pos 0)) → s' ≡ with_value s v → s' ≡ Other → s' ≡ kind_of (status f ls)
+status_left f one ls i low es ev e o =
+    o ∙ sym (other_stays f one (take (i + 1) ls) (drop (i + 1) ls) (sym (status_next f one ls i low es ev e) ∙ o)) ∙ ap (λ k. kind_of (status f k)) (take-append-drop (i + 1) ls)

@@ -1,4 +1,4 @@
-use Rattle.std.proofs.Common.{◌≡◌, take, List, ℤ, [], sym, refl, ap, ◌∙◌, subst, inl, inr, arith, rules}
+use Rattle.std.proofs.Common.{◌≡◌, take, List, ℤ, [], sym, ap, ◌∙◌, subst, inl, inr, rules}
 use Rattle.rules.specs.Sources.{assignment}
 use Rattle.theory.specs.Trail.{on}
 use Rattle.theory.specs.Search.{Verdict as Found, Verdict.still_open, Verdict.paused, Verdict.model, Verdict.refuted}

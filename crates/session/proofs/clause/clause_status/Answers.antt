@@ -1,9 +1,8 @@
-use Rattle.std.proofs.Common.{◌≡◌, ◌+◌, ap, ◌∙◌, get_or, pos, w32, SFits, rules}
+use Rattle.std.proofs.Common.{ap, ◌∙◌, get_or, pos, w32, rules}
 use Rattle.std.proofs.lemmas.Int.{to_z-of_z}
 use Rattle.rules.specs.Sources.{true_in}
 use Rattle.rules.specs.Values.{value_in}
-use Rattle.rules.specs.declared.status.ClauseStatus.TheVariants.{Other}
-use Rattle.rules.proofs.Values.{status_next, other_known}
+use Rattle.rules.proofs.Values.{status_next, status_left}
 use Rattle.rules.proofs.Valuations.{one_true}
 use Rattle.session.proofs.clause.clause_status.Goals as goal
 
@@ -12,15 +11,13 @@ loop-literal-preserved c =
     let row = c.args.values.now in
     let C = c.args.clause.now in
     let i = c.loop-literal.literal-index in
-    let fits : SFits w32 (get_or C i (pos 0)) = search rules in
-    status_next (true_in row) (one_true row) C i c.loop-literal-test.true c.loop-literal.invariant (c.value_of.ensures ∙ ap (value_in (true_in row)) (to_z-of_z w32 _ fits)) c.with-status.ensures
+    status_next (true_in row) (one_true row) C i c.loop-literal-test.true c.loop-literal.invariant
+    (c.value_of.ensures ∙ ap (value_in (true_in row)) (to_z-of_z w32 (get_or C i (pos 0)) (search rules))) c.with-status.ensures
 
 pub returns-then-eq : goal.returns-then-eq
 returns-then-eq c =
     let row = c.args.values.now in
     let C = c.args.clause.now in
     let i = c.loop-literal.literal-index in
-    let fits : SFits w32 (get_or C i (pos 0)) = search rules in
-    let next = status_next (true_in row) (one_true row) C i c.loop-literal-test.true c.loop-literal.invariant (c.value_of.ensures ∙ ap (value_in (true_in row)) (to_z-of_z w32 _ fits)) c.with-status.ensures in
-    let left : c.with-status.result ≡ Other = search rules in
-    other_known (true_in row) (one_true row) C (i + 1) c.with-status.result next left
+    status_left (true_in row) (one_true row) C i c.loop-literal-test.true c.loop-literal.invariant
+    (c.value_of.ensures ∙ ap (value_in (true_in row)) (to_z-of_z w32 (get_or C i (pos 0)) (search rules))) c.with-status.ensures (search rules)
