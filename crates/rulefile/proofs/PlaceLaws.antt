@@ -28,15 +28,15 @@ no_feed b h = by (eqb b 10) refl
     by false e = e
 
 module _ (text : List ℕ) where
-  meant_shows : (w : List ℕ) (a : Position) (z : Result ℤ Misspelling) → Stands text a → take (length w) (drop a.place text) ≡ w → Shows text (meant w a z)
-  meant_shows w a (Ok z) s e = (s, e)
-  meant_shows w a (Err k) s e = s
+  meant_shows : (w : List ℕ) (a : Position) (z : Result ℤ Misspelling) → number_of w ≡ z → Stands text a → take (length w) (drop a.place text) ≡ w → Shows text (meant w a z)
+  meant_shows w a (Ok z) i s e = (s, e, i)
+  meant_shows w a (Err k) i s e = (s, (w, e, i))
 
   begun_shows : (k : Class) (w : List ℕ) (a : Position) → Stands text a → take (length w) (drop a.place text) ≡ w → Shows text (begun k w a)
   begun_shows Blank w a s e = (s, e)
   begun_shows LineEnd w a s e = (s, e)
-  begun_shows Digit w a s e = meant_shows w a (number_of w) s e
-  begun_shows Minus w a s e = meant_shows w a (number_of w) s e
+  begun_shows Digit w a s e = meant_shows w a (number_of w) refl s e
+  begun_shows Minus w a s e = meant_shows w a (number_of w) refl s e
   begun_shows Other w a s e = (s, e)
 
   word_shows : (w : List ℕ) (a : Position) → Stands text a → take (length w) (drop a.place text) ≡ w → Shows text (word_seen w a)

@@ -1,6 +1,7 @@
 //! Rule files on examples.
 use crate::books::read;
-use crate::faults::Fault;
+use crate::faults::{Fault, Layer};
+use crate::words::Position;
 use rules::clauses::ClauseBook;
 use rules::groups::GroupBook;
 use std::test::Fail;
@@ -18,6 +19,20 @@ fn fault(text: &[u8]) -> [usize; 4] {
             [number as usize, layer as usize, at.line, at.place]
         }
     }
+}
+
+#[test]
+fn a_fault_in_print(rt: HostRuntime) -> Result<(), Fail> {
+    let fault = Fault {
+        number: 13,
+        layer: Layer::Form,
+        at: Position {
+            line: 2,
+            place: 1_234_567,
+        },
+    };
+    assert_eq!(rt; fault.to_string(rt.alloc())?.as_str(), "13 2 2 1234567");
+    Ok(())
 }
 
 #[test]

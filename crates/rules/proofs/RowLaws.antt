@@ -35,13 +35,6 @@ rows_row (v ∷ row) w ws h z =
     cond-false (is_zero v) ([] ∷ rows (row ++ (w ∷ ws))) (in_front v (rows (row ++ (w ∷ ws)))) (not-true (is_zero v) q.0)
     ∙ ap (in_front v) (rows_row row w ws q.1 z)
 
--- without a 0 there is no row
-pub rows_none : (row : List ℤ) → none_zero row ≡ true → rows row ≡ []
-rows_none [] h = refl
-rows_none (v ∷ row) h =
-    let q = and_parts (not (is_zero v)) (none_zero row) h in
-    cond-false (is_zero v) ([] ∷ rows row) (in_front v (rows row)) (not-true (is_zero v) q.0) ∙ ap (in_front v) (rows_none row q.1)
-
 pub ended_row : (row : List ℤ) (w : ℤ) → is_zero w ≡ true → ended (row ++ (w ∷ [])) ≡ true
 ended_row [] w z = z
 ended_row (v ∷ []) w z = z

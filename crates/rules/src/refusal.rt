@@ -2,7 +2,7 @@
 ghost use Rattle.std.specs.Prelude.{◌≡◌};
 ghost use Rattle.rules.specs.Drafts.{number_of};
 
-/// A refusal, with its number. A refused call changes nothing.
+/// A refusal, with its number. A refused rule leaves the rules that stand as they were, and is gone: its words are 0.
 #[derive(Clone, Copy, PartialEq, Eq, Debug)]
 pub enum Refusal {
     /// A literal is 0, or its variable is not one of 1 to n.
