@@ -16,6 +16,9 @@ use rules::groups::GroupBook;
 /// The most bytes of a file.
 pub const MOST_BYTES: usize = 65_536;
 
+// A program reads by it, so it is more than a part of the function below.
+const _: () = prove!(MOST_BYTES == 65_536);
+
 /// The most variables of a file.
 pub(crate) const MOST_VARIABLES: u32 = 64;
 

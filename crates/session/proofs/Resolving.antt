@@ -44,9 +44,6 @@ both_few K B n (suc p) ws =
     omega arith
 
 -- what an entry does to the set, by its row
-resolved_not : (s l : ℤ) (others : List ℤ) (S : ℤ → Bool) → eqb (nat_abs s) 3 ≡ false → resolved_at (as_entry s l others) S ≡ S
-resolved_not s l others S e = rw e (cond_both (eqb (nat_abs s) 1) (assumed l) (decided l) (λ z. resolved_at z S ≡ S) (λ _. refl) (λ _. refl))
-
 resolved_as : (s l : ℤ) (others : List ℤ) (S : ℤ → Bool) → eqb (nat_abs s) 3 ≡ true → resolved_at (as_entry s l others) S ≡ resolved l others S
 resolved_as s l others S e = rw e
 
@@ -58,19 +55,9 @@ module _ (n L len : ℕ) (ws : List ℤ) (st : Coherent n L len ws) (p : ℕ) (h
   hit_is : (B : ℕ → Bool) → resolvable (marked n ws) (set_of (trail_of n len ws) B) (literal (entry_at n ws p)) ≡ (marked_index n ws x && B x)
   hit_is B = rw (literal_of n ws (word_at ws (trail_at n p)), neg_ℤ-neg_ℤ (word_at ws (trail_at n p)), on_at n len ws p h, index_neg (word_at ws (trail_at n p)), ← i)
 
-  pub miss : (B : ℕ → Bool) (t : ℕ) → (marked_index n ws x && B x) ≡ false → t ≡ both_count (marked_index n ws) B (trail_of n (p + 1) ws)
-      → (t ≡ both_count (marked_index n ws) B (trail_of n p ws)) × (set_of (trail_of n len ws) B ≡ analysed_at (marked n ws) (entry_at n ws p) (set_of (trail_of n len ws) B))
-  miss B t m e = (e ∙ (top_count B ∙ rw m (omega arith)), sym (cond-false _ _ _ (hit_is B ∙ m)))
-
   pub hit_some : (B : ℕ → Bool) (t : ℕ) → (marked_index n ws x && B x) ≡ true → t ≡ both_count (marked_index n ws) B (trail_of n (p + 1) ws)
       → t ≡ 1 + both_count (marked_index n ws) B (trail_of n p ws)
   hit_some B t m e = e ∙ (top_count B ∙ rw m)
-
-  pub stay : (B : ℕ → Bool) → (marked_index n ws x && B x) ≡ true → eqb (nat_abs (word_at ws (row_at n x 0))) 3 ≡ false
-      → set_of (trail_of n len ws) B ≡ analysed_at (marked n ws) (entry_at n ws p) (set_of (trail_of n len ws) B)
-  stay B m s = sym (cond-true _ _ _ (hit_is B ∙ m)
-      ∙ resolved_not (word_at ws (row_at n (index_of (word_at ws (trail_at n p))) 0)) (word_at ws (trail_at n p)) (reason_of n ws (index_of (word_at ws (trail_at n p)))) (set_of (trail_of n len ws) B)
-      (subst (λ y. eqb (nat_abs (word_at ws (row_at n y 0))) 3 ≡ false) i s))
 
   -- the count below the place does not see that x is no longer held
   pub forgotten : (B C : ℕ → Bool) → ((y : ℕ) → C y ≡ (B y && not (eqb y x))) → both_count (marked_index n ws) C (trail_of n p ws) ≡ both_count (marked_index n ws) B (trail_of n p ws)

@@ -1,5 +1,5 @@
 //! An idle session: it takes assumptions, begins a search, or ends.
-ghost use Rattle.std.specs.Prelude.{◌≡◌, ◌≤◌, None, [], ◌∷◌, ◌++◌, length, take, replicate, ◌-◌, ◌*◌, pos, is_ok, slice_set, OnErr, if◌then◌else◌};
+ghost use Rattle.std.specs.Prelude.{◌≡◌, ◌≤◌, [], ◌∷◌, ◌++◌, length, take, replicate, ◌-◌, ◌*◌, pos, is_ok, slice_set, OnErr, if◌then◌else◌};
 ghost use Rattle.theory.specs.Calls.{Call.assume as assuming, Call.clear as clearing, Call.begin as beginning, Call.close as closing, Reply.done, State.idle, State.closed, begun};
 ghost use Rattle.session.specs.Words.{size};
 ghost use Rattle.session.specs.Reports.{granted_as};
@@ -110,7 +110,6 @@ impl<'a> Idle<'a> {
     /// Begins a search under the assumptions that stand, with an empty trail and empty slots.
     pub fn begin(self) -> Search<'a>
         ensures search { search_in result.progress ≡ begun (standing self.entry) }
-        ensures answer { result.answer ≡ None }
         ensures promised { Promised self.entry.layout.variables self.entry.layout.slots (idle_state self.entry) beginning done (search_state result) }
         ensures layout { result.progress.memory.layout ≡ self.entry.layout }
         ensures words { result.progress.memory.words.now ≡ take (2 * self.entry.layout.variables) self.entry.words.now ++ replicate (length self.entry.words.now - 2 * self.entry.layout.variables) (pos 0) }
@@ -137,7 +136,6 @@ impl<'a> Idle<'a> {
                 verdict: Verdict::Open,
                 failed: None,
             },
-            answer: None,
         }
     }
 

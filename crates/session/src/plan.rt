@@ -39,8 +39,7 @@ pub(crate) enum End {
 }
 
 impl Memory<'_> {
-    /// Looks, and says what that leads to: the end of the search, or a step with which it goes on. Of the words, only the clause
-    /// in hand and the marks may change.
+    /// Looks, and says what that leads to: the end of the search, or a step with which it goes on. The position stays.
     pub(crate) fn next_plan<S: Source, W: Weigher>(
         &mut self,
         guide: &Guide<S, W>,

@@ -38,8 +38,7 @@ impl Verdict {
     }
 }
 
-/// A refusal, with its number. A refused call leaves the session and every buffer as they were, but that a search keeps it as its
-/// latest answer.
+/// A refusal, with its number. A refused call leaves the session and every buffer as they were.
 #[derive(Clone, Copy, PartialEq, Eq, Debug)]
 pub enum Refusal {
     /// More than 1,000 variables or slots, or too few words.

@@ -1,12 +1,10 @@
 //! A search under way: it runs in as many pieces as wanted, and is settled to be read.
-ghost use Rattle.std.specs.Prelude.{◌≡◌, List, length, OnErr};
+ghost use Rattle.std.specs.Prelude.{◌≡◌, length, OnErr};
 ghost use Rattle.theory.specs.Calls.{Call.run as running, Call.settle as settling, Reply.done};
-ghost use Rattle.theory.specs.Events.{Event};
-ghost use Rattle.theory.specs.Promise.{Promise};
 ghost use Rattle.session.specs.Guides.{guided};
 ghost use Rattle.session.specs.Memories.{Keeps};
 ghost use Rattle.session.specs.Reports.{reported_as, refusal_of};
-ghost use Rattle.session.specs.Sessions.{search_state, settled_state, Lived, Promised, run_refusal, scratch_after};
+ghost use Rattle.session.specs.Sessions.{search_state, settled_state, Promised, run_refusal, scratch_after};
 
 use crate::guide::Guide;
 use crate::report::{Refusal, Report};
@@ -15,7 +13,7 @@ use rules::source::Source;
 use weights::weigher::Weigher;
 
 impl<'a> Search<'a> {
-    /// Runs the search for at most so many steps, and keeps what it answers. A refused call changes nothing else.
+    /// Runs the search for at most so many steps. A refused call changes nothing.
     // Its three guides are the caller's, and are one struct from here on: a public one would only be made to be taken apart.
     pub fn run<S: Source, W: Weigher>(
         &mut self,
@@ -28,39 +26,12 @@ impl<'a> Search<'a> {
         ensures promised { Promised self.old.progress.memory.layout.variables self.old.progress.memory.layout.slots (search_state self.old)
             (running limit (guided (S.meaning source.now) preferences.now W.Weight.at_most W.Weight.zero W.Weight.plus (W.weight weigher.now)) (length scratch.old))
             (reported_as result) (search_state self.new) }
-        ensures answer { self.new.answer ≡ Some result }
         ensures refusal { refusal_of result ≡ run_refusal self.old.progress.memory.layout.variables (S.meaning source.now).count (length scratch.old) }
-        ensures unchanged { OnErr result (self.new ≡ record self.old { answer = Some result }) }
-        ensures scratch { scratch.new ≡ scratch_after (run_refusal self.old.progress.memory.layout.variables (S.meaning source.now).count (length scratch.old)) scratch.old }
-        ensures layout { self.new.progress.memory.layout ≡ self.old.progress.memory.layout }
-        ensures size { length self.new.progress.memory.words.now ≡ length self.old.progress.memory.words.now }
-    {
-        let guide = Guide {
-            source,
-            preferences,
-            weigher,
-        };
-        let answer = self.attempt(limit, &guide, scratch);
-        self.answer = Some(answer);
-        answer
-    }
-
-    /// Runs the search, if nothing refuses the run.
-    fn attempt<S: Source, W: Weigher>(
-        &mut self,
-        limit: u32,
-        guide: &Guide<S, W>,
-        scratch: &mut [u8],
-    ) -> Result<Report, Refusal>
-        ensures promised { Promised self.old.progress.memory.layout.variables self.old.progress.memory.layout.slots (search_state self.old)
-            (running limit (guided (S.meaning guide.now.source.now) guide.now.preferences.now W.Weight.at_most W.Weight.zero W.Weight.plus (W.weight guide.now.weigher.now)) (length scratch.old))
-            (reported_as result) (search_state self.new) }
-        ensures refusal { refusal_of result ≡ run_refusal self.old.progress.memory.layout.variables (S.meaning guide.now.source.now).count (length scratch.old) }
         ensures unchanged { OnErr result (self.new ≡ self.old) }
-        ensures scratch { scratch.new ≡ scratch_after (run_refusal self.old.progress.memory.layout.variables (S.meaning guide.now.source.now).count (length scratch.old)) scratch.old }
+        ensures scratch { scratch.new ≡ scratch_after (run_refusal self.old.progress.memory.layout.variables (S.meaning source.now).count (length scratch.old)) scratch.old }
         ensures keeps { Keeps self.old.progress.memory self.new.progress.memory }
     {
-        if guide.source.variables() as usize != self.progress.memory.layout.variables {
+        if source.variables() as usize != self.progress.memory.layout.variables {
             return Err(Refusal::OtherCount);
         }
         if scratch.len() < self.progress.memory.layout.variables {
@@ -70,16 +41,12 @@ impl<'a> Search<'a> {
         if self.progress.verdict.has_ended() {
             return Ok(Report::without_steps(self.progress.verdict));
         }
-        Ok(self.progress.drive(limit, guide, scratch))
-    }
-
-    /// What the latest run answered; nothing before the first.
-    pub fn answer(&self) -> Option<Result<Report, Refusal>>
-        ensures answer { result ≡ self.now.answer }
-        ensures promise { (h : List Event) → Lived self.now.progress.memory.layout.variables self.now.progress.memory.layout.slots h (search_state self.now)
-            → Promise self.now.progress.memory.layout.variables self.now.progress.memory.layout.slots h (search_state self.now) }
-    {
-        self.answer
+        let guide = Guide {
+            source,
+            preferences,
+            weigher,
+        };
+        Ok(self.progress.drive(limit, &guide, scratch))
     }
 
     /// Settles the search.
@@ -87,10 +54,7 @@ impl<'a> Search<'a> {
         ensures progress { result.progress ≡ self.entry.progress }
         ensures promised { Promised self.entry.progress.memory.layout.variables self.entry.progress.memory.layout.slots (search_state self.entry) settling done (settled_state result) }
     {
-        let Search {
-            progress,
-            answer: _,
-        } = self;
+        let Search { progress } = self;
         Settled { progress }
     }
 }

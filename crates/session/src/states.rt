@@ -7,7 +7,6 @@ ghost use Rattle.session.specs.Decode.{assumptions_of};
 
 use crate::layout::Layout;
 use crate::progress::Progress;
-use crate::report::{Refusal, Report};
 
 /// A session between searches, over lent words. It ends only by `close`.
 // Words with a number of how many are in use, as in `Memory`: nothing is allocated.
@@ -23,7 +22,6 @@ pub struct Idle<'a> {
 /// A search. Its values cannot be read before it is settled.
 pub struct Search<'a> {
     pub(crate) progress: Progress<'a>,
-    pub(crate) answer: Option<Result<Report, Refusal>>,
 }
 
 /// A search at rest.

@@ -1,11 +1,12 @@
 -- Every session keeps the promise; and the counts of every session.
-use Rattle.std.proofs.Common.{◌≡◌, ℕ, Bool, true, false, List, [], ◌∷◌, ◌++◌, ℤ, pos, sym, refl, ap, ◌∙◌, subst}
+use Rattle.std.proofs.Common.{◌≡◌, ℕ, Bool, true, false, List, [], ◌∷◌, ◌++◌, ℤ, pos, sym, refl, ap, ◌∙◌, subst, append-nil}
 use mathlib.Core.Bool.{false≢true}
+use Rattle.std.proofs.lemmas.Bool.{cond_both}
 use Rattle.rules.specs.Clauses.{is_falsified}
 use Rattle.rules.specs.Sources.{LawfulAt, Lawful}
 use Rattle.theory.specs.Trail.{Entry.assumed, Entry.decided, Entry.implied}
 use Rattle.theory.specs.Look.{Position}
-use Rattle.theory.specs.Conflict.{others_of, learned}
+use Rattle.theory.specs.Conflict.{others_of, learned, written, slot_empty}
 use Rattle.theory.specs.Search.{Kind.assuming, Kind.deciding, Kind.implying, Kind.conflicting, Guide, ended, Kind, Step, Step.conflict, Step.imply, Step.assume, Step.prefer, Step.lowest}
 use Rattle.theory.specs.Run.{Search, Report, Run, Leads, Leads.start, Leads.along}
 use Rattle.theory.specs.Calls.{Call, Reply, State, Next, Next.assumes, Next.assumes_outside, Next.assumes_full, Next.clears, Next.begins, Next.closes, Next.runs, Next.runs_other, Next.runs_short, Next.settles, Next.finds, Next.values, Next.values_without, Next.values_outside, Next.names, Next.names_without, Next.names_outside, Next.reopens}
@@ -55,9 +56,13 @@ is_conflict deciding = false
 is_conflict implying = false
 is_conflict conflicting = true
 
+-- filled slots stay as they were
+slots_stay : (L : ℕ) (slots : List (List ℤ)) (C : List ℤ) → (more : List (List ℤ)) × (written L slots C ≡ slots ++ more)
+slots_stay L slots C = cond_both (slot_empty L slots) (slots ++ (C ∷ [])) slots (λ k. (more : List (List ℤ)) × (k ≡ slots ++ more)) (λ _. (C ∷ [], refl)) (λ _. ([], sym (append-nil slots)))
+
 step_undid : (n L : ℕ) (g : Guide) (p : Position) {k : Kind} {u : ℕ} {p' : Position} → Step n L g p k u p' → k ≡ conflicting → Undid n L g p p' u
 step_undid n L g p (conflict C d u S lk fa ch an su tu) e =
-    record { clause = C; looked = (lk, ap is_falsified fa); decision = d; allowed = ch.allowed; least = ch.least; rest = (u, others_of u (learned n S), refl); many = chunk_kept p.trail d }
+    record { clause = C; looked = (lk, ap is_falsified fa); decision = d; allowed = ch.allowed; least = ch.least; rest = (u, others_of u (learned n S), refl); many = chunk_kept p.trail d; slots = slots_stay L p.slots (learned n S) }
 step_undid n L g p (imply C l lk st) e = absurd (false≢true (ap is_conflict e))
 step_undid n L g p (assume a lk f z) e = absurd (false≢true (ap is_conflict e))
 step_undid n L g p (prefer l lk al f) e = absurd (false≢true (ap is_conflict e))

@@ -33,11 +33,12 @@ pub record Leg : Type 0 where
 abbrev pub leg : ℕ → Verdict → ℕ → ℕ → List ℤ → Leg
 leg limit v steps undone values = record { limit = limit; verdict = v; steps = steps; undone = undone; values = values }
 
--- A search from its beginning: its runs one after another, with an empty preference list, and which assumptions are named at the end.
+-- A search from its beginning: its runs one after another, and which assumptions are named at the end.
 pub record Case : Type 0 where
   pub variables : ℕ
   pub slots : ℕ
   pub book : Book
+  pub preferences : List ℤ
   pub weigh : Member → Plain
   pub assumptions : List ℤ
   pub legs : List Leg
@@ -54,7 +55,7 @@ Plays n L g q [] names = q.named ≡ names
 Plays n L g q (l ∷ ls) names = (r : Report) × (q' : Search) × Run n L g l.limit q r q' × Reaches n l r q' × Plays n L g q' ls names
 
 abbrev pub guide_of : Case → Guide
-guide_of c = record { source = book_meaning c.variables c.book; preferences = []; weighing = plain_weighing c.weigh }
+guide_of c = record { source = book_meaning c.variables c.book; preferences = c.preferences; weighing = plain_weighing c.weigh }
 
 -- the book is a lawful source, and the runs go so by the rules
 abbrev pub Follows : Case → Type 0
@@ -102,9 +103,13 @@ over_3_4_5 =
     ∷ leg 1000 model 2 0 (pos 1 ∷ pos 2 ∷ minus 3 ∷ minus 4 ∷ pos 5 ∷ [])
     ∷ []
 
--- a case: so many variables and slots, the book, the weights, the assumptions, the runs, and the named assumptions
+-- a case with an empty preference list: so many variables and slots, the book, the weights, the assumptions, the runs, and the named assumptions
 abbrev pub known : ℕ → ℕ → Book → (Member → Plain) → List ℤ → List Leg → List ℤ → Case
-known n L b w assumptions ls names = record { variables = n; slots = L; book = b; weigh = w; assumptions = assumptions; legs = ls; named = names }
+known n L b w assumptions ls names = record { variables = n; slots = L; book = b; preferences = []; weigh = w; assumptions = assumptions; legs = ls; named = names }
+
+-- the same with preferred literals
+abbrev pub preferring : List ℤ → Case → Case
+preferring ls c = record c { preferences = ls }
 
 abbrev pub known_cases : List Case
 known_cases =
@@ -118,7 +123,11 @@ known_cases =
     -- without one the latest goes, that of 3
     ∷ known 5 0 crossing three_heavy [] (leg 1000 model 8 3 (pos 1 ∷ pos 2 ∷ minus 3 ∷ minus 4 ∷ pos 5 ∷ []) ∷ []) []
     ∷ known 5 0 crossing three_heavy [] over_3_4_5 []
+    -- of chunks that weigh the same the latest goes, also with a slot empty
+    ∷ known 5 1 crossing ones [] (leg 1000 model 8 3 (pos 1 ∷ pos 2 ∷ minus 3 ∷ minus 4 ∷ pos 5 ∷ []) ∷ []) []
     ∷ known 4 0 chained ones (pos 4 ∷ pos 1 ∷ pos 3 ∷ []) (leg 1000 refuted 4 0 (pos 1 ∷ pos 2 ∷ minus 3 ∷ pos 4 ∷ []) ∷ []) (pos 3 ∷ pos 1 ∷ [])
+    -- preferred are -5, which is no variable here, and -1
+    ∷ preferring (minus 5 ∷ minus 1 ∷ []) (known 2 0 (clauses ((pos 1 ∷ pos 2 ∷ []) ∷ [])) ones [] (leg 1000 model 2 0 (minus 1 ∷ pos 2 ∷ []) ∷ []) [])
     ∷ known 3 0 one_of_three ones (pos 2 ∷ []) (leg 1000 model 3 0 (minus 1 ∷ pos 2 ∷ minus 3 ∷ []) ∷ []) []
     ∷ []
 

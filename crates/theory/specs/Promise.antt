@@ -51,6 +51,7 @@ abbrev pub step_bound : ℕ → ℕ → ℕ
 step_bound n L = (L + 1) * (n + 1) ^ (n + 1)
 
 -- REPAIR. A conflict step undid one allowed chunk and nothing else, at most as heavy as every other allowed one, and placed a literal.
+-- Filled slots stayed as they were.
 pub record Undid (n L : ℕ) (g : Guide) (p p' : Position) (undone : ℕ) : Type 0 where
   pub clause : List ℤ
   pub looked : Look n g.source p (Some clause) × (falsified_on p.trail clause ≡ true)
@@ -59,6 +60,7 @@ pub record Undid (n L : ℕ) (g : Guide) (p p' : Position) (undone : ℕ) : Type
   pub least : (c : ℤ) → Allowed L p clause c → g.weighing (chunk p.trail decision) (chunk p.trail c) ≡ true
   pub rest : (l : ℤ) × (others : List ℤ) × (p'.trail ≡ implied l others ∷ without_chunk p.trail decision)
   pub many : undone + length (without_chunk p.trail decision) ≡ length p.trail
+  pub slots : (more : List (List ℤ)) × (p'.slots ≡ p.slots ++ more)
 
 -- Any other step undid nothing: it placed a literal.
 abbrev pub Added : Position → Position → ℕ → Type 0
