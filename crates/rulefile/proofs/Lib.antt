@@ -1,4 +1,5 @@
 mod NumberLaws
+mod PrintLaws
 mod WordLaws
 mod FormLaws
 mod RuleLaws

@@ -1,5 +1,6 @@
 -- How a number is spelled.
-use Rattle.std.specs.Prelude.{ℕ, ◌+◌, ◌-◌, ◌*◌, Bool, false, cond, not, ◌&&◌, List, [], ◌∷◌, length, ℤ, pos, neg_ℤ, Ok, Err, Result, ◌==◌, nat_le}
+use Rattle.std.specs.Prelude.{◌≡◌, ℕ, ◌+◌, ◌-◌, ◌*◌, ◌^◌, ◌<◌, Bool, false, cond, not, ◌&&◌, List, [], ◌∷◌, length, ℤ, pos, neg_ℤ, unsigned_abs, Ok, Err, Result, ◌==◌, nat_le}
+use Rattle.std.specs.Fmt.{signed_decimal}
 use Rattle.std.specs.Str.{all_ascii_digits}
 use Rattle.rulefile.specs.declared.words.Misspelling.{Misspelling}
 use Rattle.rulefile.specs.declared.words.Misspelling.TheVariants.{Spelling, Length}
@@ -29,3 +30,17 @@ minus n = neg_ℤ (pos n)
 abbrev pub number_of : List ℕ → Result ℤ Misspelling
 number_of [] = Err Spelling
 number_of (b ∷ bs) = cond (b == 45) (signed minus (natural bs)) (cond (b == 48 && length bs == 0) (Ok (pos 0)) (signed pos (natural (b ∷ bs))))
+
+-- LAWS: a word is a number exactly when it is what a number of at most nine digits prints.
+
+-- a word that is a number is what that number prints
+abbrev pub WrittenAsPrinted : Type 0
+WrittenAsPrinted = (w : List ℕ) (z : ℤ) → number_of w ≡ Ok z → w ≡ signed_decimal z
+
+-- a number that a word is has at most nine digits
+abbrev pub NineDigits : Type 0
+NineDigits = (w : List ℕ) (z : ℤ) → number_of w ≡ Ok z → unsigned_abs z < 10 ^ 9
+
+-- what a number of at most nine digits prints is that number
+abbrev pub PrintedIsRead : Type 0
+PrintedIsRead = (z : ℤ) → unsigned_abs z < 10 ^ 9 → number_of (signed_decimal z) ≡ Ok z

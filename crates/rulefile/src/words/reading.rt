@@ -2,6 +2,7 @@
 ghost use Rattle.std.specs.Prelude.{◌≡◌, ◌+◌, ◌<◌, ◌≤◌, false, length, drop, All, slice_index};
 ghost use Rattle.rulefile.specs.Words.{is_gap, passed, gap, spot, run, seen, word_seen, seen_in, took, left_after};
 ghost use Rattle.rulefile.specs.Ahead.{ahead};
+ghost use Rattle.rulefile.specs.Numbers.{WrittenAsPrinted, NineDigits, PrintedIsRead};
 ghost use Rattle.rulefile.specs.Places.{Shows};
 
 use crate::bytes::{Class, class_of};
@@ -13,6 +14,7 @@ impl<'a> Reader<'a> {
     pub fn new(text: &'a [u8]) -> Reader<'a>
         ensures ahead { ahead result ≡ seen_in text.now }
         ensures parts { All (Shows text.now) (seen_in text.now) }
+        ensures numbers { WrittenAsPrinted × NineDigits × PrintedIsRead }
     {
         Reader {
             text,

@@ -1,5 +1,9 @@
 use Rattle.rulefile.proofs.PlaceLaws.{text_shows}
+use Rattle.rulefile.proofs.PrintLaws.{written_as_printed, nine_digits, printed_is_read}
 use Rattle.rulefile.proofs.words.Reader.new.Goals as goal
 
 pub returns-clause-parts : goal.returns-clause-parts
 returns-clause-parts c = text_shows c.args.text.now
+
+pub returns-clause-numbers : goal.returns-clause-numbers
+returns-clause-numbers c = (written_as_printed, nine_digits, printed_is_read)
