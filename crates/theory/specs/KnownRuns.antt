@@ -1,9 +1,9 @@
 -- Runs whose course is known, over books of clauses and of groups.
-use Rattle.std.specs.Prelude.{◌≡◌, ℕ, cond, List, [], ◌∷◌, ℤ, pos, neg_ℤ, All}
+use Rattle.std.specs.Prelude.{◌≡◌, ℕ, Bool, true, false, cond, ◌&&◌, ◌==◌, List, [], ◌∷◌, ℤ, pos, neg_ℤ, All}
 use Rattle.rules.specs.Literals.{same}
 use Rattle.rules.specs.Sources.{Meaning, Lawful}
 use Rattle.rules.specs.Books.{clause_book, Group, group_book}
-use Rattle.theory.specs.Weighing.{Member, Weighing, Plain, plain, plain_at_most, plain_plus, total_weight}
+use Rattle.theory.specs.Weighing.{Member, Standing, Assumed, Decided, Implied, Weighing, Plain, plain, plain_at_most, plain_plus, total_weight}
 use Rattle.theory.specs.Trail.{valuation}
 use Rattle.theory.specs.Search.{Guide, Verdict, Verdict.paused, Verdict.model, Verdict.refuted}
 use Rattle.theory.specs.Run.{Search, Report, Run}
@@ -69,6 +69,15 @@ ones m = plain 1
 abbrev pub three_heavy : Member → Plain
 three_heavy m = plain (cond (same m.literal (pos 3)) 9 1)
 
+-- an implied literal, at the fourth place
+abbrev pub is_implied : Standing → Bool
+is_implied Assumed = false
+is_implied Decided = false
+is_implied Implied = true
+
+abbrev pub fourth_heavy : Member → Plain
+fourth_heavy m = plain (cond (is_implied m.standing && m.place == 3) 9 1)
+
 abbrev pub minus : ℕ → ℤ
 minus v = neg_ℤ (pos v)
 
@@ -120,6 +129,7 @@ known_cases =
     -- with a slot empty the lighter chunk goes, that of 1
     ∷ known 5 1 crossing three_heavy [] (leg 1000 model 8 3 (minus 1 ∷ minus 2 ∷ pos 3 ∷ pos 4 ∷ pos 5 ∷ []) ∷ []) []
     ∷ known 5 1 crossing three_heavy [] over_1_2_5 []
+    ∷ known 5 1 crossing fourth_heavy [] (leg 1000 model 8 3 (minus 1 ∷ minus 2 ∷ pos 3 ∷ pos 4 ∷ pos 5 ∷ []) ∷ []) []
     -- without one the latest goes, that of 3
     ∷ known 5 0 crossing three_heavy [] (leg 1000 model 8 3 (pos 1 ∷ pos 2 ∷ minus 3 ∷ minus 4 ∷ pos 5 ∷ []) ∷ []) []
     ∷ known 5 0 crossing three_heavy [] over_3_4_5 []
