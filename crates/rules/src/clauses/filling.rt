@@ -78,7 +78,7 @@ impl<'a> ClauseBook<'a> {
         let ClauseBook { buffer, count: _ } = self;
         let variables = buffer.variables;
         SealedClauses {
-            words: buffer.into_rows(),
+            words: buffer.into_rows().0,
             variables,
         }
     }

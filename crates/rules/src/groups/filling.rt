@@ -97,7 +97,7 @@ impl<'a> GroupBook<'a> {
         let GroupBook { buffer, last: _ } = self;
         let variables = buffer.variables;
         SealedGroups {
-            words: buffer.into_rows(),
+            words: buffer.into_rows().0,
             variables,
         }
     }

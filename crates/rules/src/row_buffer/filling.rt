@@ -1,5 +1,5 @@
 //! Filling a buffer of rows.
-ghost use Rattle.std.specs.Prelude.{◌≡◌, ◌<◌, true, false, length, replicate, pos};
+ghost use Rattle.std.specs.Prelude.{◌≡◌, ◌++◌, ◌<◌, true, false, length, replicate, pos};
 ghost use Rattle.rules.specs.Literals.{has};
 ghost use Rattle.rules.specs.Rows.{is_zero, ended, rows};
 ghost use Rattle.rules.specs.Drafts.{book_count, reply};
@@ -116,10 +116,12 @@ impl<'a> RowBuffer<'a> {
         &self.words[..]
     }
 
-    /// The words of the rows that stand.
-    pub(crate) fn into_rows(self) -> &'a [i32]
-        ensures ends { ended result.now ≡ true }
-        ensures rows { rows result.now ≡ (content self.entry).standing }
+    /// The words of the rows that stand, and those behind them.
+    // Both, so that nothing can be written to the latter on the way.
+    pub(crate) fn into_rows(self) -> (&'a [i32], &'a [i32])
+        ensures ends { ended result.0.now ≡ true }
+        ensures rows { rows result.0.now ≡ (content self.entry).standing }
+        ensures words { result.0.now ++ result.1.now ≡ self.entry.words.now }
     {
         let RowBuffer {
             words,
@@ -129,6 +131,6 @@ impl<'a> RowBuffer<'a> {
             fault: _,
         } = self;
         let words: &'a [i32] = words;
-        &words[0..used]
+        words.split_at(used)
     }
 }
