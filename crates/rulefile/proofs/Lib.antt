@@ -7,3 +7,4 @@ mod FillingLaws
 pub mod GrammarLaws
 pub mod Theorem
 mod PlaceLaws
+mod PartLaws

@@ -20,12 +20,26 @@ feeds_push [] b = omega arith
 feeds_push (c ∷ bs) b = let i = feeds_push bs b in omega arith
 
 -- a byte of a word is no line feed
-no_feed : (b : ℕ) → is_gap b ≡ false → eqb b 10 ≡ false
+pub no_feed : (b : ℕ) → is_gap b ≡ false → eqb b 10 ≡ false
 no_feed b h = by (eqb b 10) refl
   where
     by : (t : Bool) → eqb b 10 ≡ t → eqb b 10 ≡ false
     by true e = absurd (both_ways (is_gap b) h (ap is_gap (eqb-true b 10 e)))
     by false e = e
+
+-- a position behind the front of a text
+pub record Behind (front : List ℕ) (l p : ℕ) : Type 0 where
+  pub line : l ≡ 1 + feeds front
+  pub place : p ≡ length front
+
+-- one byte more
+pub behind_byte : (front : List ℕ) (b l p : ℕ) → Behind front l p → Behind (front ++ (b ∷ [])) (line_after l b) (p + 1)
+behind_byte front b l p h = record { line = (let i = feeds_push front b in omega (arith, h.line)); place = omega (arith, h.place, length_push front b) }
+
+pub behind_plain_byte : (front : List ℕ) (b l p : ℕ) → eqb b 10 ≡ false → Behind front l p → Behind (front ++ (b ∷ [])) l (p + 1)
+behind_plain_byte front b l p g h =
+    let n : ◌≡◌ {A = ℕ} (cond (eqb b 10) 1 0) 0 = ap (λ (t : Bool). cond {A = ℕ} t 1 0) g in
+    record { line = (let i = feeds_push front b in omega (arith, h.line)); place = omega (arith, h.place, length_push front b) }
 
 module _ (text : List ℕ) where
   meant_shows : (w : List ℕ) (a : Position) (z : Result ℤ Misspelling) → number_of w ≡ z → Stands text a → take (length w) (drop a.place text) ≡ w → Shows text (meant w a z)
@@ -43,11 +57,6 @@ module _ (text : List ℕ) where
   word_shows [] a s e = (s, e)
   word_shows (b ∷ bs) a s e = begun_shows (class_of b) (b ∷ bs) a s e
 
-  -- a position behind the front of the text
-  record Behind (front : List ℕ) (l p : ℕ) : Type 0 where
-    line : l ≡ 1 + feeds front
-    place : p ≡ length front
-
   -- a word at a position
   word_stands : (front w rest : List ℕ) (a : Position) → text ≡ front ++ (w ++ rest) → Behind front a.line a.place → Shows text (word_seen w a)
   word_stands front w rest a e h =
@@ -56,15 +65,6 @@ module _ (text : List ℕ) where
       let long = ap length e ∙ length-append front (w ++ rest) in
       let low : a.place ≤ length text = omega (arith, h.place, long) in
       word_shows w a (low, h.line ∙ ap (λ k. 1 + feeds k) (sym here)) (ap (take (length w)) there ∙ take_at w rest (length w) refl)
-
-  -- one byte more
-  behind_byte : (front : List ℕ) (b l p : ℕ) → Behind front l p → Behind (front ++ (b ∷ [])) (line_after l b) (p + 1)
-  behind_byte front b l p h = record { line = (let i = feeds_push front b in omega (arith, h.line)); place = omega (arith, h.place, length_push front b) }
-
-  behind_word_byte : (front : List ℕ) (b l p : ℕ) → is_gap b ≡ false → Behind front l p → Behind (front ++ (b ∷ [])) l (p + 1)
-  behind_word_byte front b l p g h =
-      let n : ◌≡◌ {A = ℕ} (cond (eqb b 10) 1 0) 0 = ap (λ (t : Bool). cond {A = ℕ} t 1 0) (no_feed b g) in
-      record { line = (let i = feeds_push front b in omega (arith, h.line)); place = omega (arith, h.place, length_push front b) }
 
   end_stands : (front : List ℕ) (l p : ℕ) → text ≡ front ++ [] → Behind front l p → Shows text (end (position l p))
   end_stands front l p e h = let same : front ≡ text = sym (e ∙ append-nil front) in (h.line ∙ ap (λ k. 1 + feeds k) same, h.place ∙ ap length same)
@@ -78,13 +78,13 @@ module _ (text : List ℕ) where
       (ih : (st : At) (l p : ℕ) → Behind (front ++ (b ∷ [])) l p → Walks st (front ++ (b ∷ [])) → All (Shows text) (shown st p l bs)) where
     between_byte : (m : Mode) (o : Option Mode) → passed m b ≡ o
         → All (Shows text) (elim o as (λ _. List Seen) [ None ↦ shown (within (b ∷ []) (position l p)) (p + 1) l bs | Some n ↦ shown (between n) (p + 1) (line_after l b) bs ])
-    between_byte m None q = ih (within (b ∷ []) (position l p)) l (p + 1) (behind_word_byte front b l p (passed_stop m b q) h) (front, refl, h)
+    between_byte m None q = ih (within (b ∷ []) (position l p)) l (p + 1) (behind_plain_byte front b l p (no_feed b (passed_stop m b q)) h) (front, refl, h)
     between_byte m (Some n) q = ih (between n) (line_after l b) (p + 1) (behind_byte front b l p h) tt
 
     within_byte : (w : List ℕ) (a : Position) → Walks (within w a) front → (o : Option Mode) → passed Inside b ≡ o
         → All (Shows text) (elim o as (λ _. List Seen) [ None ↦ shown (within (w ++ (b ∷ [])) a) (p + 1) l bs | Some n ↦ word_seen w a ∷ shown (between n) (p + 1) (line_after l b) bs ])
     within_byte w a (before, is, at) None q =
-        ih (within (w ++ (b ∷ [])) a) l (p + 1) (behind_word_byte front b l p (passed_stop Inside b q) h) (before, ap (λ k. k ++ (b ∷ [])) is ∙ append_assoc before w (b ∷ []), at)
+        ih (within (w ++ (b ∷ [])) a) l (p + 1) (behind_plain_byte front b l p (no_feed b (passed_stop Inside b q)) h) (before, ap (λ k. k ++ (b ∷ [])) is ∙ append_assoc before w (b ∷ []), at)
     within_byte w a (before, is, at) (Some n) q =
         All-cons (Shows text) (word_seen w a) (shown (between n) (p + 1) (line_after l b) bs) (word_stands before w (b ∷ bs) a (e ∙ ap (λ k. k ++ (b ∷ bs)) is ∙ append_assoc before w (b ∷ bs)) at)
         (ih (between n) (line_after l b) (p + 1) (behind_byte front b l p h) tt)

@@ -2,6 +2,7 @@ pub mod Bytes
 pub mod Numbers
 pub mod Words
 pub mod Places
+pub mod Parts
 pub mod Ahead
 pub mod Faults
 pub mod Form

@@ -4,6 +4,7 @@ ghost use Rattle.rulefile.specs.Words.{is_gap, passed, gap, spot, run, seen, wor
 ghost use Rattle.rulefile.specs.Ahead.{ahead};
 ghost use Rattle.rulefile.specs.Numbers.{WrittenAsPrinted, NineDigits, PrintedIsRead};
 ghost use Rattle.rulefile.specs.Places.{Shows};
+ghost use Rattle.rulefile.specs.Parts.{Whole};
 
 use crate::bytes::{Class, class_of};
 use crate::words::numbers::read_number;
@@ -15,6 +16,7 @@ impl<'a> Reader<'a> {
         ensures ahead { ahead result ≡ seen_in text.now }
         ensures parts { All (Shows text.now) (seen_in text.now) }
         ensures numbers { WrittenAsPrinted × NineDigits × PrintedIsRead }
+        ensures whole { Whole text.now (seen_in text.now) }
     {
         Reader {
             text,
