@@ -1,15 +1,17 @@
 -- A text is gaps and words, and what it shows are its words.
-use Rattle.std.proofs.Common.{◌≡◌, ℕ, ◌+◌, Bool, true, false, cond, ◌&&◌, eqb, List, [], ◌∷◌, ◌++◌, length, Some, None, All, Option, sym, refl, ap, ◌∙◌, subst, append_assoc, append-nil, arith}
+use Rattle.std.proofs.Common.{◌≡◌, ℕ, ◌+◌, Bool, true, false, cond, ◌&&◌, eqb, List, [], ◌∷◌, ◌++◌, length, drop, Some, None, All, Option, sym, refl, ap, ◌∙◌, subst, append_assoc, append-nil, arith}
+use Rattle.std.proofs.lemmas.List.{take_at, drop_at}
 use Rattle.std.proofs.lemmas.List.Elements.{All-nil, All-cons, All-head, All-tail, All-append}
-use Rattle.std.proofs.lemmas.Bool.{eqb-true, ne_eqb, both_ways}
+use Rattle.std.proofs.lemmas.Bool.{cond-true, cond-false, eqb-true, ne_eqb, both_ways}
 use Rattle.rulefile.specs.Bytes.{class_of, is_blank, is_digit}
 use Rattle.rulefile.specs.declared.bytes.Class.{Class}
 use Rattle.rulefile.specs.declared.bytes.Class.TheVariants.{Blank, LineEnd, Digit, Minus, Other}
 use Rattle.rulefile.specs.declared.words.Mode.{Mode}
 use Rattle.rulefile.specs.declared.words.Mode.TheVariants.{Fresh, Inside, Comment}
 use Rattle.rulefile.specs.declared.words.Position.{Position}
-use Rattle.rulefile.specs.Words.{gap_class, is_gap, in_line, in_comment, passed, line_after, Seen, end, position, word_seen, between, within, shown, seen_in}
+use Rattle.rulefile.specs.Words.{gap_class, is_gap, in_line, in_comment, passed, line_after, run, Seen, end, position, word_seen, between, within, shown, seen_in}
 use Rattle.rulefile.specs.Parts.{behind, begins, line_begins, comment_begins, OfComment, OfWord, comment_stops, word_stops, Parted, nothing, between_words, comment, word, Whole}
+use Rattle.rulefile.proofs.WordLaws.{split, word_shown}
 use Rattle.rulefile.proofs.PlaceLaws.{Behind, behind_byte, behind_plain_byte, no_feed}
 
 -- BYTES
@@ -232,32 +234,16 @@ comment_shown (b ∷ bs) rest l p q e a s = by (byte_of b) (comment_shown bs res
     by (plain g n i j k) ih = on k ih
 
 -- a word to its end
-word_shown : (bs rest w : List ℕ) (a : Position) (l p q : ℕ) → q ≡ p + length bs → All OfWord bs → word_stops rest ≡ true → shown (within w a) p l (bs ++ rest) ≡ word_seen (w ++ bs) a ∷ shown (between Inside) q l rest
-word_shown [] [] w a l p q e h s = let same : p ≡ q = omega arith in rw (append-nil w, same) refl
-word_shown [] (b ∷ rest) w a l p q e h s = by (byte_of b)
-  where
-    on : (n : Mode) → passed Inside b ≡ Some n → shown (within w a) p l (b ∷ rest) ≡ word_seen (w ++ []) a ∷ shown (between Inside) q l (b ∷ rest)
-    on n j =
-        let same : p ≡ q = omega arith in
-        ap (within_on w a p l b rest) j
-        ∙ ap (λ (x : ℕ). word_seen w a ∷ shown (between n) (x + 1) (line_after l b) rest) same
-        ∙ ap (λ (x : List ℕ). word_seen x a ∷ shown (between n) (q + 1) (line_after l b) rest) (sym (append-nil w))
-        ∙ ap (λ (x : List Seen). word_seen (w ++ []) a ∷ x) (sym (ap (between_on q l b rest) j))
+word_length : (bs rest : List ℕ) → All OfWord bs → word_stops rest ≡ true → run (bs ++ rest) ≡ length bs
+word_length [] [] h s = refl
+word_length [] (b ∷ rest) h s = cond-true (is_gap b) 0 (run rest + 1) s
+word_length (b ∷ bs) rest h s = cond-false (is_gap b) 0 (run (bs ++ rest) + 1) (All-head OfWord b bs h) ∙ (let i = word_length bs rest (All-tail OfWord b bs h) s in omega arith)
 
-    by : Byte b → shown (within w a) p l (b ∷ rest) ≡ word_seen (w ++ []) a ∷ shown (between Inside) q l (b ∷ rest)
-    by (blank g n i j k) = on Inside j
-    by (feed g n i j k) = on Fresh j
-    by (plain g n i j k) = absurd (both_ways (is_gap b) g s)
-word_shown (b ∷ bs) rest w a l p q e h s = by (byte_of b) (word_shown bs rest (w ++ (b ∷ [])) a l (p + 1) q (omega arith) (All-tail OfWord b bs h) s)
-  where
-    no : is_gap b ≡ false
-    no = All-head OfWord b bs h
-
-    by : Byte b → shown (within (w ++ (b ∷ [])) a) (p + 1) l (bs ++ rest) ≡ word_seen ((w ++ (b ∷ [])) ++ bs) a ∷ shown (between Inside) q l rest
-        → shown (within w a) p l (b ∷ (bs ++ rest)) ≡ word_seen (w ++ (b ∷ bs)) a ∷ shown (between Inside) q l rest
-    by (blank g n i j k) ih = absurd (both_ways (is_gap b) no g)
-    by (feed g n i j k) ih = absurd (both_ways (is_gap b) no g)
-    by (plain g n i j k) ih = ap (within_on w a p l b (bs ++ rest)) j ∙ ih ∙ ap (λ (x : List ℕ). word_seen x a ∷ shown (between Inside) q l rest) (append_assoc w (b ∷ []) bs)
+rest_shown : (bs rest w : List ℕ) (a : Position) (l p : ℕ) → All OfWord bs → word_stops rest ≡ true → shown (within w a) p l (bs ++ rest) ≡ word_seen (w ++ bs) a ∷ shown (between Inside) (p + length bs) l rest
+rest_shown bs rest w a l p h s =
+    word_shown a l w p (bs ++ rest) ∙ ap (split a l w p (bs ++ rest)) (word_length bs rest h s)
+    ∙ ap (λ (x : List ℕ). word_seen (w ++ x) a ∷ shown (between Inside) (p + length bs) l (drop (length bs) (bs ++ rest))) (take_at bs rest (length bs) refl)
+    ∙ ap (λ (x : List ℕ). word_seen (w ++ bs) a ∷ shown (between Inside) (p + length bs) l x) (drop_at bs rest (length bs) refl)
 
 -- a walk between words over a byte between words, or over the first of a word
 gap_passed : (t : Bool) (b : ℕ) (m : Mode) → passed Fresh b ≡ Some m → passed Inside b ≡ Some m → passed (cond t Fresh Inside) b ≡ Some m
@@ -302,7 +288,7 @@ only_one before0 rest0 ts0 (word before b bs rest ts o w s more) l p h =
     ∙ ap (λ (x : Bool). shown (between (cond x Fresh Inside)) (p + 1 + length bs) l rest) (line_goes_on before b bs all))
     ∙ ap (λ (a : Position). word_seen (b ∷ bs) a ∷ shown (between Inside) (p + 1 + length bs) l rest) (here before l p h)
     ∙ sym (ap (between_on p l b (bs ++ rest)) (word_passed (line_begins before) b o (byte_of b) (All-head OfWord b bs w))
-    ∙ word_shown bs rest (b ∷ []) (position l p) l (p + 1) (p + 1 + length bs) refl (All-tail OfWord b bs w) s)
+    ∙ rest_shown bs rest (b ∷ []) (position l p) l (p + 1) (All-tail OfWord b bs w) s)
 
 pub text_whole : (text : List ℕ) → Whole text (seen_in text)
 text_whole text = record { parted = text_parted text; only = λ us t. only_one [] text us t 1 0 (record { line = refl; place = refl }) }

@@ -88,10 +88,10 @@ goes Other = off refl refl
 
 -- a word to its end, and what comes after it
 module _ (a : Position) (l : ℕ) where
-  abbrev split : List ℕ → ℕ → List ℕ → ℕ → List Seen
+  abbrev pub split : List ℕ → ℕ → List ℕ → ℕ → List Seen
   split w q bs k = word_seen (w ++ take k bs) a ∷ shown (between Inside) (q + k) l (drop k bs)
 
-  word_shown : (w : List ℕ) (q : ℕ) (bs : List ℕ) → shown (within w a) q l bs ≡ split w q bs (run bs)
+  pub word_shown : (w : List ℕ) (q : ℕ) (bs : List ℕ) → shown (within w a) q l bs ≡ split w q bs (run bs)
   word_shown w q [] = rw (append-nil w, add-zero q) refl
   word_shown w q (b ∷ bs) = by (goes (class_of b)) (word_shown (w ++ (b ∷ [])) (q + 1) bs)
     where
