@@ -25,7 +25,7 @@ with_literal_ok : (z : ℤ) (L : Taken (List ℤ)) (ls : List ℤ) (rest : List 
 with_literal_ok z (Ok t) ls rest e = (t.0, ap (λ k. Ok (t.0, k)) (ok_second e), sym (ok_first e))
 with_literal_ok z (Err f) ls rest e = cc
 
-literals_sound : (ts : List Seen) (ls : List ℤ) (rest : List Seen) → literals_next ts ≡ Ok (ls, rest) → Literals ts ls rest
+pub literals_sound : (ts : List Seen) (ls : List ℤ) (rest : List Seen) → literals_next ts ≡ Ok (ls, rest) → Literals ts ls rest
 literals_sound [] ls rest e = cc
 literals_sound (other w p ∷ ts) ls rest e = cc
 literals_sound (bad f ∷ ts) ls rest e = cc
@@ -55,7 +55,7 @@ literals_begun : (ts : List Seen) (ls : List ℤ) (after : List Seen) → Litera
 literals_begun ts0 ls0 after0 (no_more w p after) = record { word = w; value = pos 0; at = p; rest = after; is = refl }
 literals_begun ts0 ls0 after0 (one_more w z p ts ls after h more) = record { word = w; value = z; at = p; rest = ts; is = refl }
 
-literals_shorter : (ts : List Seen) (ls : List ℤ) (after : List Seen) → Literals ts ls after → length after < length ts
+pub literals_shorter : (ts : List Seen) (ls : List ℤ) (after : List Seen) → Literals ts ls after → length after < length ts
 literals_shorter ts0 ls0 after0 (no_more w p after) = omega arith
 literals_shorter ts0 ls0 after0 (one_more w z p ts ls after h more) = let i = literals_shorter ts ls after more in omega arith
 
@@ -83,7 +83,7 @@ ruled_whole n r p (Err f) rs w = absurd w
 ruled_whole n r p (Ok t) [] w = absurd w
 ruled_whole n r p (Ok t) (s ∷ rs) (e, w) = record { literals = t.0; after = t.1; is = refl; more = rs; rules = ap (λ k. k ∷ rs) (sym e); whole = w }
 
-plain_is : (z : ℤ) → negative z ≡ false → z ≡ pos (nat_abs z)
+pub plain_is : (z : ℤ) → negative z ≡ false → z ≡ pos (nat_abs z)
 plain_is (pos n) e = refl
 plain_is (negsuc n) e = absurd (false≢true (sym e))
 
@@ -253,13 +253,28 @@ count_ok most (number w z p ∷ ts) x rest e = by (negative z) refl (ltb most (n
         let v : nat_abs z ≡ x.value = ap (λ (k : Number ℕ). k.value) (ok_first j) in
         record { word = w; at = p; is = ap (λ k. number w k p ∷ ts) (plain_is z h ∙ ap pos v) ∙ ap (λ k. number w (pos x.value) p ∷ k) (ok_second j); low = subst (λ k. k ≤ most) v (ltb-false most (nat_abs z) i) }
 
+-- a head, by what was read of it
+pub head_of : (ts : List Seen) (t u : Number ℕ × List Seen) → opening ts ≡ Ok t → count_next 65535 t.1 ≡ Ok u → HeadIn ts t.0.value u.0.value u.1
+head_of ts t u q i =
+    let x = and_then_ok (word_next (codes "p") ts) (λ rest. and_then (word_next (codes "cnf") rest) (count_next 1000)) t q in
+    let y = and_then_ok (word_next (codes "cnf") x.0.1) (count_next 1000) t x.2 in
+    let p = word_ok (codes "p") ts x.0 x.1 in
+    let cnf = word_ok (codes "cnf") x.0.1 y.0 y.1 in
+    let n = count_ok 1000 y.0.1 t.0 t.1 y.2 in
+    let m = count_ok 65535 t.1 u.0 u.1 i in
+    let is : ts ≡ other (codes "p") p.0 ∷ other (codes "cnf") cnf.0 ∷ number n.word (pos t.0.value) n.at ∷ number m.word (pos u.0.value) m.at ∷ u.1 =
+    p.1 ∙ ap (λ k. other (codes "p") p.0 ∷ k) (cnf.1 ∙ ap (λ k. other (codes "cnf") cnf.0 ∷ k) (n.is ∙ ap (λ k. number n.word (pos t.0.value) n.at ∷ k) m.is)) in
+    subst (λ k. HeadIn k t.0.value u.0.value u.1) (sym is) (head p.0 cnf.0 n.at m.at n.word m.word t.0.value u.0.value u.1 n.low m.low)
+
+head_low : (ts : List Seen) (n m : ℕ) (after : List Seen) → HeadIn ts n m after → n ≤ 1000
+head_low ts0 n0 m0 after0 (head p q r s v w n m after hn hm) = hn
+
 -- a head, and rules that fill the books
 record Headed (c g : ℕ) (ts : List Seen) (b : Books) : Type 0 where
   variables : ℕ
   count : ℕ
   rest : List Seen
   headed : HeadIn ts variables count rest
-  low : variables ≤ 1000
   fills : filled (fresh variables c g) (rules_in count between rest) ≡ Ok b
 
 head_sound : (c g : ℕ) (ts : List Seen) (b : Books) → outcome c g ts ≡ Ok b → Headed c g ts b
@@ -271,23 +286,7 @@ head_sound c g ts b e = by (opening ts) refl e
       where
         on : (u : Taken (Number ℕ)) → count_next 65535 t.1 ≡ u → counted (fresh t.0.value c g) u ≡ Ok b → Headed c g ts b
         on (Err f) i k = cc
-        on (Ok u) i k =
-            let x = and_then_ok (word_next (codes "p") ts) (λ rest. and_then (word_next (codes "cnf") rest) (count_next 1000)) t q in
-            let y = and_then_ok (word_next (codes "cnf") x.0.1) (count_next 1000) t x.2 in
-            let p = word_ok (codes "p") ts x.0 x.1 in
-            let cnf = word_ok (codes "cnf") x.0.1 y.0 y.1 in
-            let n = count_ok 1000 y.0.1 t.0 t.1 y.2 in
-            let m = count_ok 65535 t.1 u.0 u.1 i in
-            let is : ts ≡ other (codes "p") p.0 ∷ other (codes "cnf") cnf.0 ∷ number n.word (pos t.0.value) n.at ∷ number m.word (pos u.0.value) m.at ∷ u.1 =
-            p.1 ∙ ap (λ k. other (codes "p") p.0 ∷ k) (cnf.1 ∙ ap (λ k. other (codes "cnf") cnf.0 ∷ k) (n.is ∙ ap (λ k. number n.word (pos t.0.value) n.at ∷ k) m.is)) in
-            record {
-              variables = t.0.value;
-              count = u.0.value;
-              rest = u.1;
-              headed = subst (λ k. HeadIn k t.0.value u.0.value u.1) (sym is) (head p.0 cnf.0 n.at m.at n.word m.word t.0.value u.0.value u.1 n.low m.low);
-              low = n.low;
-              fills = k;
-            }
+        on (Ok u) i k = record { variables = t.0.value; count = u.0.value; rest = u.1; headed = head_of ts t u q i; fills = k }
 
 -- a head as it is read
 pub record HeadRead (ts : List Seen) (n m : ℕ) (after : List Seen) : Type 0 where
@@ -337,7 +336,7 @@ file_sound c g ts b e =
     let s = rules_sound (length h.rest) h.count h.rest f.rules (omega arith) f.whole in
     record {
       variables = h.variables;
-      low = h.low;
+      low = head_low ts h.variables h.count h.rest h.headed;
       rules = f.rules;
       file = record { count = h.count; body = h.rest; headed = h.headed; ruled = s.0; counted = s.1 };
       taken = f.taken;

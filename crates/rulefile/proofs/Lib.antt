@@ -8,3 +8,4 @@ pub mod GrammarLaws
 pub mod Theorem
 mod PlaceLaws
 mod PartLaws
+mod FindingLaws

@@ -8,3 +8,4 @@ pub mod Faults
 pub mod Form
 pub mod Outcomes
 pub mod Grammar
+pub mod Findings

@@ -1,11 +1,12 @@
 //! Filling two books from a rule file.
-ghost use Rattle.std.specs.Prelude.{◌≡◌};
+ghost use Rattle.std.specs.Prelude.{◌≡◌, IfErr};
 ghost use Rattle.rules.specs.ClauseFilling as clausebook;
 ghost use Rattle.rules.specs.GroupFilling as groupbook;
 ghost use Rattle.rulefile.specs.Ahead.{ahead};
 ghost use Rattle.rulefile.specs.Form.{natural_next, literals_from};
 ghost use Rattle.rulefile.specs.Words.{seen_in};
 ghost use Rattle.rulefile.specs.Grammar.{Judged};
+ghost use Rattle.rulefile.specs.Findings.{Found};
 ghost use Rattle.rulefile.specs.Outcomes.{rules_in, between, books, fresh, filled, rest_outcome, outcome, told, failed, SameSizes, GivenUp, pushes, clause_read, group_read};
 
 use crate::faults::{BookFault, FormFault};
@@ -137,6 +138,7 @@ pub fn read(
 ) -> Result<(), BookFault>
     ensures outcome { told result (books clauses.new groups.new) ≡ outcome (clausebook.filling clauses.old).size (groupbook.filling groups.old).size (seen_in text.now) }
     ensures judged { Judged result (clausebook.filling clauses.old).size (groupbook.filling groups.old).size (seen_in text.now) (books clauses.new groups.new) }
+    ensures found { IfErr result (Found text.now (clausebook.filling clauses.old).size (groupbook.filling groups.old).size) }
     ensures emptied { failed result (GivenUp clauses.old clauses.new groups.old groups.new) }
 {
     clauses.reset(0);
