@@ -1,5 +1,5 @@
 -- What a fault says of its text.
-use Rattle.std.proofs.Common.{◌≡◌, ℕ, zero, suc, ◌+◌, ◌-◌, ◌≤◌, Bool, true, false, cond, eqb, ltb, inl, inr, List, [], ◌∷◌, ◌++◌, length, take, ℤ, pos, nat_abs, Some, None, Ok, Err, codes, fold, All, Option, Result, sym, refl, ap, ◌∙◌, subst, arith}
+use Rattle.std.proofs.Common.{◌≡◌, ℕ, zero, suc, ◌+◌, ◌-◌, ◌≤◌, Bool, true, false, cond, eqb, inl, inr, List, [], ◌∷◌, ◌++◌, length, take, ℤ, pos, nat_abs, Some, None, Ok, Err, codes, fold, All, Option, Result, sym, refl, ap, ◌∙◌, subst, arith}
 use Rattle.std.specs.Str.{bytes_eq}
 use Rattle.std.specs.Prelude.{IfErr}
 use Rattle.std.proofs.Math.Seq.{take-length}
@@ -15,7 +15,7 @@ use Rattle.rulefile.specs.declared.words.Mode.{Mode}
 use Rattle.rulefile.specs.declared.words.Mode.TheVariants.{Fresh, Inside}
 use Rattle.rulefile.specs.declared.words.Misspelling.{Misspelling}
 use Rattle.rulefile.specs.declared.words.Position.{Position}
-use Rattle.rulefile.specs.declared.faults.Misfit.TheVariants.{NotAllowed, TooLarge, Count}
+use Rattle.rulefile.specs.declared.faults.Misfit.TheVariants.{NotAllowed, Count}
 use Rattle.rulefile.specs.declared.faults.FormFault.{FormFault}
 use Rattle.rulefile.specs.declared.faults.FormFault.TheVariants as F
 use Rattle.rulefile.specs.declared.faults.BookFault.{BookFault}
@@ -25,23 +25,16 @@ use Rattle.rulefile.specs.Numbers.{number_of}
 use Rattle.rulefile.specs.Words.{passed, line_after, Seen, number, other, bad, end, position, meant, begun, word_seen, At, shown, seen_in}
 use Rattle.rulefile.specs.Words as W
 use Rattle.rulefile.specs.Places.{feeds, Stands, Shows}
-use Rattle.rulefile.specs.Form.{Taken, negative, misfit, limited, count_next, word_next, and_then, opening, literals_next, literals_from}
-use Rattle.rulefile.specs.Outcomes.{Rule, clause, group, extended, Rules, all, broken, rule, State, between, limit, within, rules_in, Books, fresh, answer, with_rule, filled, counted, opened, outcome, told}
+use Rattle.rulefile.specs.Form.{Taken, negative, count_next, opening, literals_next, literals_from}
+use Rattle.rulefile.specs.Outcomes.{Rule, clause, group, extended, all, broken, rule, between, limit, within, rules_in, Books, fresh, answer, with_rule, filled, counted, opened, outcome, told}
 use Rattle.rulefile.specs.Grammar.{Literals, no_more, one_more, RuleIn, clause_in, group_in, HeadIn, head, takes}
-use Rattle.rulefile.specs.Findings.{place_of, form_place, Has, One, RulesTo, no_rule, one_rule, Starts, Refused, Found}
+use Rattle.rulefile.specs.Findings.{place_of, form_place, Has, RulesTo, no_rule, one_rule, Starts, Refused, Found}
 use Rattle.rulefile.proofs.FillingLaws.{ruled, clause_all, group_all, number_ruled, within_ruled}
 use Rattle.rulefile.proofs.GrammarLaws.{literals_sound, literals_shorter, plain_is, head_of}
 use Rattle.rulefile.proofs.PlaceLaws.{text_shows}
+use Rattle.rulefile.proofs.StopLaws.{Closed, text_stops}
 
 -- THE END
-
--- these end with the text's end
-abbrev Closed : List Seen → Type 0
-Closed [] = ⊥
-Closed (number w z p ∷ ts) = Closed ts
-Closed (other w p ∷ ts) = Closed ts
-Closed (bad f ∷ ts) = Closed ts
-Closed (end p ∷ ts) = Unit {0}
 
 module _ (ts : List Seen) (h : Closed ts) where
   meant_closed : (w : List ℕ) (a : Position) (z : Result ℤ Misspelling) → Closed (meant w a z ∷ ts)
@@ -75,121 +68,6 @@ walk_closed (b ∷ bs) (W.within w a) p l = by (passed Inside b) (walk_closed bs
     by None ih = ih (W.within (w ++ (b ∷ [])) a) (p + 1) l
     by (Some n) ih = word_closed (shown (W.between n) (p + 1) (line_after l b) bs) (ih (W.between n) (p + 1) (line_after l b)) w a
 
--- FAULTS OF THE WORDS AND OF THE FORM
-
--- something shown has the fault
-abbrev Of : List Seen → FormFault → Type 0
-Of ts f = One (λ t. Has t f) ts
-
--- the fault that breaks rules off, if any, is such
-abbrev Breaks : Rules → (FormFault → Type 0) → Type 0
-Breaks all P = Unit {0}
-Breaks (broken f) P = P f
-Breaks (rule r p rest) P = Breaks rest P
-
-breaks_later : (R : Rules) (t : Seen) (ts : List Seen) → Breaks R (Of ts) → Breaks R (Of (t ∷ ts))
-breaks_later all t ts h = tt
-breaks_later (broken f) t ts h = inr h
-breaks_later (rule r p rest) t ts h = breaks_later rest t ts h
-
-rules_break : (n : ℕ) (st : State) (ts : List Seen) → Closed ts → Breaks (rules_in n st ts) (Of ts)
-rules_break n st [] h = absurd h
-rules_break n st (bad f ∷ ts) h = inl refl
-rules_break n between (end p ∷ ts) h = by (eqb n 0)
-  where
-    by : (t : Bool) → Breaks (cond t all (broken (F.Form Count p))) (Of (end p ∷ ts))
-    by true = tt
-    by false = inl (inr refl)
-rules_break n (limit a) (end p ∷ ts) h = inl (inl refl)
-rules_break n (within r a) (end p ∷ ts) h = inl (inl refl)
-rules_break n between (other w p ∷ ts) h = by (bytes_eq w (codes "a")) (rules_break n (limit p) ts h)
-  where
-    by : (t : Bool) → Breaks (rules_in n (limit p) ts) (Of ts) → Breaks (cond t (rules_in n (limit p) ts) (broken (F.Form NotAllowed p))) (Of (other w p ∷ ts))
-    by true i = breaks_later (rules_in n (limit p) ts) (other w p) ts i
-    by false i = inl refl
-rules_break n (limit a) (other w p ∷ ts) h = inl refl
-rules_break n (within r a) (other w p ∷ ts) h = inl refl
-rules_break n between (number w z p ∷ ts) h = by (eqb n 0) (is_zero z) (rules_break (n - 1) between ts h) (rules_break (n - 1) (within (clause (z ∷ [])) p) ts h)
-  where
-    by : (s t : Bool) → Breaks (rules_in (n - 1) between ts) (Of ts) → Breaks (rules_in (n - 1) (within (clause (z ∷ [])) p) ts) (Of ts)
-        → Breaks (cond s (broken (F.Form Count p)) (cond t (rule (clause []) p (rules_in (n - 1) between ts)) (rules_in (n - 1) (within (clause (z ∷ [])) p) ts))) (Of (number w z p ∷ ts))
-    by true t i j = inl (inr (inr refl))
-    by false true i j = breaks_later (rules_in (n - 1) between ts) (number w z p) ts i
-    by false false i j = breaks_later (rules_in (n - 1) (within (clause (z ∷ [])) p) ts) (number w z p) ts j
-rules_break n (limit a) (number w z p ∷ ts) h = by (negative z) (rules_break n (within (group (nat_abs z) []) a) ts h)
-  where
-    by : (t : Bool) → Breaks (rules_in n (within (group (nat_abs z) []) a) ts) (Of ts) → Breaks (cond t (broken (F.Form NotAllowed p)) (rules_in n (within (group (nat_abs z) []) a) ts)) (Of (number w z p ∷ ts))
-    by true i = inl (inl refl)
-    by false i = breaks_later (rules_in n (within (group (nat_abs z) []) a) ts) (number w z p) ts i
-rules_break n (within r a) (number w z p ∷ ts) h = by (is_zero z) (rules_break n between ts h) (rules_break n (within (extended r z) a) ts h)
-  where
-    by : (t : Bool) → Breaks (rules_in n between ts) (Of ts) → Breaks (rules_in n (within (extended r z) a) ts) (Of ts)
-        → Breaks (cond t (rule r a (rules_in n between ts)) (rules_in n (within (extended r z) a) ts)) (Of (number w z p ∷ ts))
-    by true i j = breaks_later (rules_in n between ts) (number w z p) ts i
-    by false i j = breaks_later (rules_in n (within (extended r z) a) ts) (number w z p) ts j
-
-filled_breaks : (P : FormFault → Type 0) (f : FormFault) (R : Rules) (b : Books) → Breaks R P → filled b R ≡ Err (B.Form f) → P f
-filled_breaks P f all b h e = cc
-filled_breaks P f (broken x) b h e = let q : x ≡ f = cc in subst P q h
-filled_breaks P f (rule r p rest) b h e = by (answer b r) e (filled_breaks P f rest (with_rule b r) h)
-  where
-    by : (a : Reply) → elim a as (λ _. Result Books BookFault) [ Ok _ ↦ filled (with_rule b r) rest | Err x ↦ Err (B.Book x p) ] ≡ Err (B.Form f) → (filled (with_rule b r) rest ≡ Err (B.Form f) → P f) → P f
-    by (Ok u) q ih = ih q
-    by (Err x) q ih = cc
-
--- A part was taken, and what is left has no fault that these have not; or these have the part's fault.
-abbrev Passes : {X : Type 0} → List Seen → Taken X → Type 0
-Passes ts (Ok t) = Closed t.1 × ((f : FormFault) → Of t.1 f → Of ts f)
-Passes ts (Err f) = Of ts f
-
-word_passes : (key : List ℕ) (ts : List Seen) → Closed ts → Passes ts (word_next key ts)
-word_passes key [] h = absurd h
-word_passes key (number w z p ∷ ts) h = inl (inl refl)
-word_passes key (bad f ∷ ts) h = inl refl
-word_passes key (end p ∷ ts) h = inl (inl refl)
-word_passes key (other w p ∷ ts) h = by (bytes_eq w key)
-  where
-    by : (t : Bool) → Passes (other w p ∷ ts) (cond {A = Taken (Unit {0})} t (Ok (tt, ts)) (misfit NotAllowed p))
-    by true = (h, λ f i. inr i)
-    by false = inl refl
-
-count_passes : (most : ℕ) (ts : List Seen) → Closed ts → Passes ts (count_next most ts)
-count_passes most [] h = absurd h
-count_passes most (other w p ∷ ts) h = inl refl
-count_passes most (bad f ∷ ts) h = inl refl
-count_passes most (end p ∷ ts) h = inl (inl refl)
-count_passes most (number w z p ∷ ts) h = by (negative z)
-  where
-    large : (t : Bool) → Passes (number w z p ∷ ts) (cond {A = Taken (Number ℕ)} t (misfit TooLarge p) (Ok (record { value = nat_abs z; at = p }, ts)))
-    large true = inl (inr (inl refl))
-    large false = (h, λ f i. inr i)
-
-    by : (t : Bool) → Passes (number w z p ∷ ts) (limited most (cond {A = Taken (Number ℕ)} t (misfit NotAllowed p) (Ok (record { value = nat_abs z; at = p }, ts))))
-    by true = inl (inl refl)
-    by false = large (ltb most (nat_abs z))
-
-on_passes : {Y : Type 0} (ts us : List Seen) → ((f : FormFault) → Of us f → Of ts f) → (y : Taken Y) → Passes us y → Passes ts y
-on_passes ts us i (Ok y) h = (h.0, λ f k. i f (h.1 f k))
-on_passes ts us i (Err f) h = i f h
-
-then_passes : {X Y : Type 0} (ts : List Seen) (t : Taken X) (next : List Seen → Taken Y) → Passes ts t → ((rest : List Seen) → Closed rest → Passes rest (next rest)) → Passes ts (and_then t next)
-then_passes ts (Ok t) next h g = on_passes ts t.1 h.1 (next t.1) (g t.1 h.0)
-then_passes ts (Err f) next h g = h
-
-opening_passes : (ts : List Seen) → Closed ts → Passes ts (opening ts)
-opening_passes ts h =
-    then_passes ts (word_next (codes "p") ts) (λ rest. and_then (word_next (codes "cnf") rest) (count_next 1000)) (word_passes (codes "p") ts h)
-    (λ rest k. then_passes rest (word_next (codes "cnf") rest) (count_next 1000) (word_passes (codes "cnf") rest k) (count_passes 1000))
-
-module _ (f : FormFault) where
-  counted_form : (b : Books) (ts : List Seen) (u : Taken (Number ℕ)) → Passes ts u → counted b u ≡ Err (B.Form f) → Of ts f
-  counted_form b ts (Ok u) h e = h.1 f (filled_breaks (Of u.1) f (rules_in u.0.value between u.1) b (rules_break u.0.value between u.1 h.0) e)
-  counted_form b ts (Err x) h e = let q : x ≡ f = cc in subst (Of ts) q h
-
-  opened_form : (c g : ℕ) (ts : List Seen) (t : Taken (Number ℕ)) → Passes ts t → opened c g t ≡ Err (B.Form f) → Of ts f
-  opened_form c g ts (Ok t) h e = h.1 f (counted_form (fresh t.0.value c g) t.1 (count_next 65535 t.1) (count_passes 65535 t.1 h.0) e)
-  opened_form c g ts (Err x) h e = let q : x ≡ f = cc in subst (Of ts) q h
-
 -- PLACES
 
 module _ (text : List ℕ) where
@@ -208,21 +86,15 @@ module _ (text : List ℕ) where
   has_place (end p) f (inl e) = ap form_place e
   has_place (end p) f (inr e) = ap form_place e
 
-  one_shows : (f : FormFault) (ts : List Seen) → All (Shows text) ts → Of ts f → One (λ t. Shows text t × Has t f) ts
-  one_shows f [] a h = absurd h
-  one_shows f (t ∷ ts) a (inl h) = inl (All-head (Shows text) t ts a, h)
-  one_shows f (t ∷ ts) a (inr h) = inr (one_shows f ts (All-tail (Shows text) t ts a) h)
-
-  one_stands : (f : FormFault) (ts : List Seen) → One (λ t. Shows text t × Has t f) ts → Stands text (form_place f)
-  one_stands f [] h = absurd h
-  one_stands f (t ∷ ts) (inl (s, h)) = subst (Stands text) (sym (has_place t f h)) (seen_stands t s)
-  one_stands f (t ∷ ts) (inr h) = one_stands f ts h
+  here_shows : (before : List Seen) (t : Seen) (after : List Seen) → All (Shows text) (before ++ (t ∷ after)) → Shows text t
+  here_shows [] t after a = All-head (Shows text) t after a
+  here_shows (u ∷ us) t after a = here_shows us t after (All-tail (Shows text) u (us ++ (t ∷ after)) a)
 
   form_found : (c g : ℕ) (f : FormFault) → outcome c g (seen_in text) ≡ Err (B.Form f) → Found text c g (B.Form f)
   form_found c g f e =
-      let closed = walk_closed text (W.between Fresh) 0 1 in
-      let one = one_shows f (seen_in text) (text_shows text) (opened_form f c g (seen_in text) (opening (seen_in text)) (opening_passes (seen_in text) closed) e) in
-      record { stands = one_stands f (seen_in text) one; explained = one }
+      let s = text_stops f c g (seen_in text) (walk_closed text (W.between Fresh) 0 1) e in
+      let shows = here_shows s.before s.here s.after (subst (All (Shows text)) s.split (text_shows text)) in
+      record { stands = subst (Stands text) (sym (has_place s.here f s.fault)) (seen_stands s.here shows); explained = (s, shows) }
 
 -- FAULTS OF THE BOOKS
 

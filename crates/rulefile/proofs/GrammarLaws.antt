@@ -62,7 +62,7 @@ literals_shorter ts0 ls0 after0 (one_more w z p ts ls after h more) = let i = li
 -- RULES
 
 -- these rules, to the end of the text
-abbrev Whole : Rules → List Rule → Type 0
+abbrev pub Whole : Rules → List Rule → Type 0
 Whole all [] = Unit {0}
 Whole all (r ∷ rs) = ⊥
 Whole (broken f) rs = ⊥
@@ -220,7 +220,7 @@ and_then_ok : {X Y : Type 0} (t : Taken X) (next : List Seen → Taken Y) (y : Y
 and_then_ok (Ok x) next y e = (x, refl, e)
 and_then_ok (Err f) next y e = cc
 
-word_ok : (key : List ℕ) (ts : List Seen) (x : Unit {0} × List Seen) → word_next key ts ≡ Ok x → (p : Position) × (ts ≡ other key p ∷ x.1)
+pub word_ok : (key : List ℕ) (ts : List Seen) (x : Unit {0} × List Seen) → word_next key ts ≡ Ok x → (p : Position) × (ts ≡ other key p ∷ x.1)
 word_ok key [] x e = cc
 word_ok key (number w z p ∷ ts) x e = cc
 word_ok key (bad f ∷ ts) x e = cc
@@ -231,13 +231,13 @@ word_ok key (other w p ∷ ts) x e = by (bytes_eq w key) refl e
     by true h q = (p, let i = (bytes_eq-Decides w key).0 h in let j = ok_second q in cc)
     by false h q = cc
 
-record CountAt (most : ℕ) (ts : List Seen) (x : Number ℕ) (rest : List Seen) : Type 0 where
-  word : List ℕ
-  at : Position
-  is : ts ≡ number word (pos x.value) at ∷ rest
-  low : x.value ≤ most
+pub record CountAt (most : ℕ) (ts : List Seen) (x : Number ℕ) (rest : List Seen) : Type 0 where
+  pub word : List ℕ
+  pub at : Position
+  pub is : ts ≡ number word (pos x.value) at ∷ rest
+  pub low : x.value ≤ most
 
-count_ok : (most : ℕ) (ts : List Seen) (x : Number ℕ) (rest : List Seen) → count_next most ts ≡ Ok (x, rest) → CountAt most ts x rest
+pub count_ok : (most : ℕ) (ts : List Seen) (x : Number ℕ) (rest : List Seen) → count_next most ts ≡ Ok (x, rest) → CountAt most ts x rest
 count_ok most [] x rest e = cc
 count_ok most (other w p ∷ ts) x rest e = cc
 count_ok most (bad f ∷ ts) x rest e = cc
@@ -317,7 +317,7 @@ head_complete c g ts n m after h =
 
 -- FILES
 
-file_whole : (ts : List Seen) (n : ℕ) (rules : List Rule) (f : File ts n rules) → Whole (rules_in f.count between f.body) rules
+pub file_whole : (ts : List Seen) (n : ℕ) (rules : List Rule) (f : File ts n rules) → Whole (rules_in f.count between f.body) rules
 file_whole ts n rules f = subst (λ m. Whole (rules_in m between f.body) rules) f.counted (rules_complete f.body rules f.ruled)
 
 -- a file whose rules the books took

@@ -8,4 +8,5 @@ pub mod GrammarLaws
 pub mod Theorem
 mod PlaceLaws
 mod PartLaws
+mod StopLaws
 mod FindingLaws

@@ -1,5 +1,5 @@
 -- What a fault says of its text.
-use Rattle.std.specs.Prelude.{◌≡◌, ℕ, ◌⊎◌, List, [], ◌∷◌, Err, fold}
+use Rattle.std.specs.Prelude.{◌≡◌, ℕ, ◌⊎◌, List, [], ◌∷◌, ◌++◌, Err, fold}
 use Rattle.rules.specs.declared.refusal.Refusal.{Refusal}
 use Rattle.rulefile.specs.declared.words.Position.{Position}
 use Rattle.rulefile.specs.declared.faults.Misfit.TheVariants.{NotAllowed, TooLarge, Count, Ends}
@@ -10,7 +10,7 @@ use Rattle.rulefile.specs.declared.faults.BookFault.TheVariants as B
 use Rattle.rulefile.specs.Words.{Seen, number, other, bad, end, seen_in}
 use Rattle.rulefile.specs.Places.{Stands, Shows}
 use Rattle.rulefile.specs.Outcomes.{Rule, fresh, answer, with_rule}
-use Rattle.rulefile.specs.Grammar.{RuleIn, HeadIn, takes}
+use Rattle.rulefile.specs.Grammar.{RuleIn, HeadIn, File, takes}
 
 -- WHERE
 
@@ -40,10 +40,16 @@ Has (other w p) f = f ≡ F.Form NotAllowed p
 Has (bad g) f = f ≡ F.Word g
 Has (end p) f = (f ≡ F.Form Ends p) ⊎ (f ≡ F.Form Count p)
 
--- one of them is so
-abbrev pub One : (Seen → Type 0) → List Seen → Type 0
-One P [] = ⊥
-One P (t ∷ ts) = P t ⊎ One P ts
+-- The fault is of the first word, or the end, with which the text cannot go on to a file: with what stands before it a file begins,
+-- and with it none, whatever follows.
+pub record Stops (ts : List Seen) (f : FormFault) : Type 0 where
+  pub before : List Seen
+  pub here : Seen
+  pub after : List Seen
+  pub split : ts ≡ before ++ (here ∷ after)
+  pub fault : Has here f
+  pub begins : (us : List Seen) × (n : ℕ) × (rules : List Rule) × File (before ++ us) n rules
+  pub ends : (us : List Seen) (n : ℕ) (rules : List Rule) → File (before ++ (here ∷ us)) n rules → ⊥
 
 -- FAULTS OF THE BOOKS
 
@@ -75,9 +81,9 @@ pub record Refused (c g : ℕ) (ts : List Seen) (e : Refusal) (p : Position) : T
 
 -- THE LAWS
 
--- A fault of the words or of the form is one that something shown has, as it stands in the text; a book's is its answer to a rule.
+-- A fault of the words or of the form is of the word that stops the text, as it stands there; a book's is its answer to a rule.
 abbrev pub Explained : List ℕ → ℕ → ℕ → BookFault → Type 0
-Explained text c g (B.Form f) = One (λ t. Shows text t × Has t f) (seen_in text)
+Explained text c g (B.Form f) = (s : Stops (seen_in text) f) × Shows text s.here
 Explained text c g (B.Book e p) = Refused c g (seen_in text) e p
 
 -- a fault stands in the text
