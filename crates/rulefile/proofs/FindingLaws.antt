@@ -3,6 +3,7 @@ use Rattle.std.proofs.Common.{◌≡◌, ℕ, zero, suc, ◌+◌, ◌-◌, ◌�
 use Rattle.std.specs.Str.{bytes_eq}
 use Rattle.std.specs.Prelude.{IfErr}
 use Rattle.std.proofs.Math.Seq.{take-length}
+use Rattle.std.proofs.lemmas.Bool.{eqb-false}
 use Rattle.std.proofs.lemmas.List.Elements.{All-head, All-tail}
 use Rattle.std.proofs.lemmas.Slice.Eq.{bytes_eq-Decides}
 use Rattle.rules.specs.Rows.{is_zero}
@@ -27,7 +28,7 @@ use Rattle.rulefile.specs.Words as W
 use Rattle.rulefile.specs.Places.{feeds, Stands, Shows}
 use Rattle.rulefile.specs.Form.{Taken, negative, count_next, opening, literals_next, literals_from}
 use Rattle.rulefile.specs.Outcomes.{Rule, clause, group, extended, all, broken, rule, between, limit, within, rules_in, Books, fresh, answer, with_rule, filled, counted, opened, outcome, told}
-use Rattle.rulefile.specs.Grammar.{Literals, no_more, one_more, RuleIn, clause_in, group_in, HeadIn, head, takes}
+use Rattle.rulefile.specs.Grammar.{Literals, no_more, one_more, RuleIn, clause_in, group_in, HeadIn, head, clauses_of, takes}
 use Rattle.rulefile.specs.Findings.{place_of, form_place, Has, RulesTo, no_rule, one_rule, Starts, Refused, Found}
 use Rattle.rulefile.proofs.FillingLaws.{ruled, clause_all, group_all, number_ruled, within_ruled}
 use Rattle.rulefile.proofs.GrammarLaws.{literals_sound, literals_shorter, plain_is, head_of}
@@ -99,7 +100,7 @@ module _ (text : List ℕ) where
 -- FAULTS OF THE BOOKS
 
 -- rules at the front that the books take, and then one that they refuse
-record Refusing (b : Books) (ts : List Seen) (e : Refusal) (p : Position) : Type 0 where
+record Refusing (n : ℕ) (b : Books) (ts : List Seen) (e : Refusal) (p : Position) : Type 0 where
   rules : List Rule
   here : List Seen
   before : RulesTo ts rules here
@@ -108,84 +109,92 @@ record Refusing (b : Books) (ts : List Seen) (e : Refusal) (p : Position) : Type
   after : List Seen
   ruled : RuleIn here refused after
   starts : Starts here p
+  few : length (clauses_of rules) + length (clauses_of (refused ∷ [])) ≤ n
   answered : answer (fold with_rule b rules) refused ≡ Err e
+
+clauses_more : (r : Rule) (rs : List Rule) → length (clauses_of (r ∷ rs)) ≡ length (clauses_of (r ∷ [])) + length (clauses_of rs)
+clauses_more (clause ls) rs = omega arith
+clauses_more (group k ls) rs = omega arith
 
 module _ (e : Refusal) (p : Position) where
   -- the books' fault in a text of at most k words is such
   abbrev Refuses : ℕ → Type 0
-  Refuses k = (n : ℕ) (ts : List Seen) (b : Books) → length ts ≤ k → filled b (rules_in n between ts) ≡ Err (B.Book e p) → Refusing b ts e p
+  Refuses k = (n : ℕ) (ts : List Seen) (b : Books) → length ts ≤ k → filled b (rules_in n between ts) ≡ Err (B.Book e p) → Refusing n b ts e p
 
-  one_refused : (k n : ℕ) (b : Books) (ts : List Seen) (r : Rule) (q : Position) (after : List Seen) → RuleIn ts r after → Starts ts q → length after ≤ k → Refuses k
-      → filled b (rule r q (rules_in n between after)) ≡ Err (B.Book e p) → Refusing b ts e p
-  one_refused k n b ts r q after first starts l ih h = by (answer b r) refl h
+  one_refused : (k m n : ℕ) (b : Books) (ts : List Seen) (r : Rule) (q : Position) (after : List Seen) → RuleIn ts r after → Starts ts q → length (clauses_of (r ∷ [])) + m ≤ n → length after ≤ k → Refuses k
+      → filled b (rule r q (rules_in m between after)) ≡ Err (B.Book e p) → Refusing n b ts e p
+  one_refused k m n b ts r q after first starts cost l ih h = by (answer b r) refl h
     where
-      by : (a : Reply) → answer b r ≡ a → elim a as (λ _. Result Books BookFault) [ Ok _ ↦ filled (with_rule b r) (rules_in n between after) | Err x ↦ Err (B.Book x q) ] ≡ Err (B.Book e p) → Refusing b ts e p
+      by : (a : Reply) → answer b r ≡ a → elim a as (λ _. Result Books BookFault) [ Ok _ ↦ filled (with_rule b r) (rules_in m between after) | Err x ↦ Err (B.Book x q) ] ≡ Err (B.Book e p) → Refusing n b ts e p
       by (Ok u) i j =
-          let m = ih n after (with_rule b r) l j in
+          let tail = ih m after (with_rule b r) l j in
+          let more = clauses_more r tail.rules in
           record {
-            rules = r ∷ m.rules;
-            here = m.here;
-            before = one_rule ts r after m.rules m.here first m.before;
-            taken = (i, m.taken);
-            refused = m.refused;
-            after = m.after;
-            ruled = m.ruled;
-            starts = m.starts;
-            answered = m.answered;
+            rules = r ∷ tail.rules;
+            here = tail.here;
+            before = one_rule ts r after tail.rules tail.here first tail.before;
+            taken = (i, tail.taken);
+            refused = tail.refused;
+            after = tail.after;
+            ruled = tail.ruled;
+            starts = tail.starts;
+            few = omega (arith, tail.few, cost, more);
+            answered = tail.answered;
           }
       by (Err x) i j =
           let why : x ≡ e = cc in
           let where_it_is : q ≡ p = cc in
-          record { rules = []; here = ts; before = no_rule ts; taken = tt; refused = r; after = after; ruled = first; starts = subst (Starts ts) where_it_is starts; answered = i ∙ ap Err why }
+          record { rules = []; here = ts; before = no_rule ts; taken = tt; refused = r; after = after; ruled = first; starts = subst (Starts ts) where_it_is starts; few = omega (arith, cost); answered = i ∙ ap Err why }
 
   -- by the rule's literals
-  ruled_refused : (k n : ℕ) (b : Books) (ts us : List Seen) (r : Rule) (q : Position) → ((ls : List ℤ) (after : List Seen) → Literals us ls after → RuleIn ts (fold extended r ls) after) → Starts ts q → length us ≤ suc k → Refuses k
-      → (L : Taken (List ℤ)) → literals_next us ≡ L → filled b (ruled n r q L) ≡ Err (B.Book e p) → Refusing b ts e p
-  ruled_refused k n b ts us r q makes starts l ih (Err f) i h = cc
-  ruled_refused k n b ts us r q makes starts l ih (Ok t) i h =
+  ruled_refused : (k m n : ℕ) (b : Books) (ts us : List Seen) (r : Rule) (q : Position) → ((ls : List ℤ) (after : List Seen) → Literals us ls after → RuleIn ts (fold extended r ls) after) → Starts ts q → ((ls : List ℤ) → length (clauses_of (fold extended r ls ∷ [])) + m ≤ n) → length us ≤ suc k → Refuses k
+      → (L : Taken (List ℤ)) → literals_next us ≡ L → filled b (ruled m r q L) ≡ Err (B.Book e p) → Refusing n b ts e p
+  ruled_refused k m n b ts us r q makes starts cost l ih (Err f) i h = cc
+  ruled_refused k m n b ts us r q makes starts cost l ih (Ok t) i h =
       let lits = literals_sound us t.0 t.1 i in
       let short = literals_shorter us t.0 t.1 lits in
-      one_refused k n b ts (fold extended r t.0) q t.1 (makes t.0 t.1 lits) starts (omega arith) ih h
+      one_refused k m n b ts (fold extended r t.0) q t.1 (makes t.0 t.1 lits) starts (cost t.0) (omega arith) ih h
 
-  limit_refused : (k n : ℕ) (q : Position) (us : List Seen) (b : Books) → length us ≤ k → Refuses k → filled b (rules_in n (limit q) us) ≡ Err (B.Book e p) → Refusing b (other (codes "a") q ∷ us) e p
+  limit_refused : (k n : ℕ) (q : Position) (us : List Seen) (b : Books) → length us ≤ k → Refuses k → filled b (rules_in n (limit q) us) ≡ Err (B.Book e p) → Refusing n b (other (codes "a") q ∷ us) e p
   limit_refused k n q [] b l ih h = cc
   limit_refused k n q (other v s ∷ us) b l ih h = cc
   limit_refused k n q (bad f ∷ us) b l ih h = cc
   limit_refused k n q (end s ∷ us) b l ih h = cc
   limit_refused k n q (number v z s ∷ us) b l ih h = by (negative z) refl h
     where
-      by : (t : Bool) → negative z ≡ t → filled b (cond t (broken (F.Form NotAllowed s)) (rules_in n (within (group (nat_abs z) []) q) us)) ≡ Err (B.Book e p) → Refusing b (other (codes "a") q ∷ number v z s ∷ us) e p
+      by : (t : Bool) → negative z ≡ t → filled b (cond t (broken (F.Form NotAllowed s)) (rules_in n (within (group (nat_abs z) []) q) us)) ≡ Err (B.Book e p) → Refusing n b (other (codes "a") q ∷ number v z s ∷ us) e p
       by true i h = cc
       by false i h =
           let m = nat_abs z in
-          subst (λ y. Refusing b (other (codes "a") q ∷ number v y s ∷ us) e p) (sym (plain_is z i))
-          (ruled_refused k n b (other (codes "a") q ∷ number v (pos m) s ∷ us) us (group m []) q
+          subst (λ y. Refusing n b (other (codes "a") q ∷ number v y s ∷ us) e p) (sym (plain_is z i))
+          (ruled_refused k n n b (other (codes "a") q ∷ number v (pos m) s ∷ us) us (group m []) q
           (λ ls after lits. subst (λ r. RuleIn (other (codes "a") q ∷ number v (pos m) s ∷ us) r after) (sym (group_all m [] ls)) (group_in q s v m us ls after lits))
-          refl (omega arith) ih (literals_next us) refl (ap (filled b) (sym (within_ruled n q (group m []) us)) ∙ h))
+          refl (λ ls. omega (arith, ap (λ r. length (clauses_of (r ∷ []))) (group_all m [] ls))) (omega arith) ih (literals_next us) refl (ap (filled b) (sym (within_ruled n q (group m []) us)) ∙ h))
 
   rules_refused : (k : ℕ) → Refuses k
   rules_refused k n [] b l h = cc
   rules_refused k n (bad f ∷ ts) b l h = cc
   rules_refused k n (end s ∷ ts) b l h = by (eqb n 0) h
     where
-      by : (t : Bool) → filled b (cond t all (broken (F.Form Count s))) ≡ Err (B.Book e p) → Refusing b (end s ∷ ts) e p
+      by : (t : Bool) → filled b (cond t all (broken (F.Form Count s))) ≡ Err (B.Book e p) → Refusing n b (end s ∷ ts) e p
       by true h = cc
       by false h = cc
   rules_refused zero n (other v s ∷ ts) b l h = absurd (omega arith)
   rules_refused zero n (number v z s ∷ ts) b l h = absurd (omega arith)
-  rules_refused (suc k) n (number v z s ∷ ts) b l h = by (eqb n 0) h (rules_refused k)
+  rules_refused (suc k) n (number v z s ∷ ts) b l h = by (eqb n 0) refl h (rules_refused k)
     where
-      by : (t : Bool) → filled b (cond t (broken (F.Form Count s)) (cond (is_zero z) (rule (clause []) s (rules_in (n - 1) between ts)) (rules_in (n - 1) (within (clause (z ∷ [])) s) ts))) ≡ Err (B.Book e p)
-          → Refuses k → Refusing b (number v z s ∷ ts) e p
-      by true h ih = cc
-      by false h ih =
-          ruled_refused k (n - 1) b (number v z s ∷ ts) (number v z s ∷ ts) (clause []) s
+      by : (t : Bool) → eqb n 0 ≡ t → filled b (cond t (broken (F.Form Count s)) (cond (is_zero z) (rule (clause []) s (rules_in (n - 1) between ts)) (rules_in (n - 1) (within (clause (z ∷ [])) s) ts))) ≡ Err (B.Book e p)
+          → Refuses k → Refusing n b (number v z s ∷ ts) e p
+      by true i h ih = cc
+      by false i h ih =
+          let ne = eqb-false n 0 i in
+          ruled_refused k (n - 1) n b (number v z s ∷ ts) (number v z s ∷ ts) (clause []) s
           (λ ls after lits. subst (λ r. RuleIn (number v z s ∷ ts) r after) (sym (clause_all [] ls)) (clause_in (number v z s ∷ ts) ls after lits))
-          refl l ih (literals_from z ts) refl (ap (filled b) (sym (number_ruled (n - 1) s (clause []) z ts (within_ruled (n - 1) s (clause (z ∷ [])) ts))) ∙ h)
+          refl (λ ls. omega (arith, ap (λ r. length (clauses_of (r ∷ []))) (clause_all [] ls))) l ih (literals_from z ts) refl (ap (filled b) (sym (number_ruled (n - 1) s (clause []) z ts (within_ruled (n - 1) s (clause (z ∷ [])) ts))) ∙ h)
   rules_refused (suc k) n (other v s ∷ ts) b l h = by (bytes_eq v (codes "a")) refl h (rules_refused k)
     where
-      by : (t : Bool) → bytes_eq v (codes "a") ≡ t → filled b (cond t (rules_in n (limit s) ts) (broken (F.Form NotAllowed s))) ≡ Err (B.Book e p) → Refuses k → Refusing b (other v s ∷ ts) e p
-      by true i h ih = subst (λ x. Refusing b (other x s ∷ ts) e p) (sym ((bytes_eq-Decides v (codes "a")).0 i)) (limit_refused k n s ts b (omega arith) ih h)
+      by : (t : Bool) → bytes_eq v (codes "a") ≡ t → filled b (cond t (rules_in n (limit s) ts) (broken (F.Form NotAllowed s))) ≡ Err (B.Book e p) → Refuses k → Refusing n b (other v s ∷ ts) e p
+      by true i h ih = subst (λ x. Refusing n b (other x s ∷ ts) e p) (sym ((bytes_eq-Decides v (codes "a")).0 i)) (limit_refused k n s ts b (omega arith) ih h)
       by false i h ih = cc
 
   book_refused : (c g : ℕ) (ts : List Seen) → outcome c g ts ≡ Err (B.Book e p) → Refused c g ts e p
@@ -212,6 +221,7 @@ module _ (e : Refusal) (p : Position) where
                 after = m.after;
                 ruled = m.ruled;
                 starts = m.starts;
+                few = m.few;
                 answered = m.answered;
               }
 

@@ -1,5 +1,5 @@
 -- What a fault says of its text.
-use Rattle.std.specs.Prelude.{◌≡◌, ℕ, ◌⊎◌, List, [], ◌∷◌, ◌++◌, Err, fold}
+use Rattle.std.specs.Prelude.{◌≡◌, ℕ, ◌+◌, ◌≤◌, ◌⊎◌, List, [], ◌∷◌, ◌++◌, length, Err, fold}
 use Rattle.rules.specs.declared.refusal.Refusal.{Refusal}
 use Rattle.rulefile.specs.declared.words.Position.{Position}
 use Rattle.rulefile.specs.declared.faults.Misfit.TheVariants.{NotAllowed, TooLarge, Count, Ends}
@@ -10,7 +10,7 @@ use Rattle.rulefile.specs.declared.faults.BookFault.TheVariants as B
 use Rattle.rulefile.specs.Words.{Seen, number, other, bad, end, seen_in}
 use Rattle.rulefile.specs.Places.{Stands, Shows}
 use Rattle.rulefile.specs.Outcomes.{Rule, fresh, answer, with_rule}
-use Rattle.rulefile.specs.Grammar.{RuleIn, HeadIn, File, takes}
+use Rattle.rulefile.specs.Grammar.{RuleIn, HeadIn, clauses_of, File, takes}
 
 -- WHERE
 
@@ -63,7 +63,8 @@ abbrev pub Starts : List Seen → Position → Type 0
 Starts [] p = ⊥
 Starts (t ∷ ts) p = place_of t ≡ p
 
--- A head, rules that the books take, and then a rule that they answer with this refusal; its first word stands there.
+-- A head, rules that the books take, and then a rule that they answer with this refusal; its first word stands there, and there are no
+-- more clauses among these than the head says.
 pub record Refused (c g : ℕ) (ts : List Seen) (e : Refusal) (p : Position) : Type 0 where
   pub variables : ℕ
   pub count : ℕ
@@ -77,6 +78,7 @@ pub record Refused (c g : ℕ) (ts : List Seen) (e : Refusal) (p : Position) : T
   pub after : List Seen
   pub ruled : RuleIn here refused after
   pub starts : Starts here p
+  pub few : length (clauses_of rules) + length (clauses_of (refused ∷ [])) ≤ count
   pub answered : answer (fold with_rule (fresh variables c g) rules) refused ≡ Err e
 
 -- THE LAWS
