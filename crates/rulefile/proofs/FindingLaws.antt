@@ -29,7 +29,7 @@ use Rattle.rulefile.specs.Places.{feeds, Stands, Shows}
 use Rattle.rulefile.specs.Form.{Taken, negative, count_next, opening, literals_next, literals_from}
 use Rattle.rulefile.specs.Outcomes.{Rule, clause, group, extended, all, broken, rule, between, limit, within, rules_in, Books, fresh, answer, with_rule, filled, counted, opened, outcome, told}
 use Rattle.rulefile.specs.Grammar.{Literals, no_more, one_more, RuleIn, clause_in, group_in, HeadIn, head, clauses_of, takes}
-use Rattle.rulefile.specs.Findings.{place_of, form_place, Has, RulesTo, no_rule, one_rule, Starts, Refused, Found}
+use Rattle.rulefile.specs.Findings.{seen_at, form_at, Has, RulesTo, no_rule, one_rule, Starts, Refused, Found}
 use Rattle.rulefile.proofs.FillingLaws.{ruled, clause_all, group_all, number_ruled, within_ruled}
 use Rattle.rulefile.proofs.GrammarLaws.{literals_sound, literals_shorter, plain_is, head_of}
 use Rattle.rulefile.proofs.PlaceLaws.{text_shows}
@@ -72,20 +72,20 @@ walk_closed (b ∷ bs) (W.within w a) p l = by (passed Inside b) (walk_closed bs
 -- PLACES
 
 module _ (text : List ℕ) where
-  seen_stands : (t : Seen) → Shows text t → Stands text (place_of t)
+  seen_stands : (t : Seen) → Shows text t → Stands text (seen_at t)
   seen_stands (number w z p) s = s.0
   seen_stands (other w p) s = s.0
   seen_stands (bad f) s = s.0
   seen_stands (end p) s = (omega (arith, s.1), s.0 ∙ ap (λ k. 1 + feeds k) (sym (ap (λ k. take k text) s.1 ∙ take-length text)))
 
-  has_place : (t : Seen) (f : FormFault) → Has t f → form_place f ≡ place_of t
-  has_place (number w z p) f (inl e) = ap form_place e
-  has_place (number w z p) f (inr (inl e)) = ap form_place e
-  has_place (number w z p) f (inr (inr e)) = ap form_place e
-  has_place (other w p) f e = ap form_place e
-  has_place (bad x) f e = ap form_place e
-  has_place (end p) f (inl e) = ap form_place e
-  has_place (end p) f (inr e) = ap form_place e
+  has_place : (t : Seen) (f : FormFault) → Has t f → form_at f ≡ seen_at t
+  has_place (number w z p) f (inl e) = ap form_at e
+  has_place (number w z p) f (inr (inl e)) = ap form_at e
+  has_place (number w z p) f (inr (inr e)) = ap form_at e
+  has_place (other w p) f e = ap form_at e
+  has_place (bad x) f e = ap form_at e
+  has_place (end p) f (inl e) = ap form_at e
+  has_place (end p) f (inr e) = ap form_at e
 
   here_shows : (before : List Seen) (t : Seen) (after : List Seen) → All (Shows text) (before ++ (t ∷ after)) → Shows text t
   here_shows [] t after a = All-head (Shows text) t after a

@@ -15,20 +15,20 @@ use Rattle.rulefile.specs.Grammar.{RuleIn, HeadIn, clauses_of, File, takes}
 -- WHERE
 
 -- where a word stands, or the end
-abbrev pub place_of : Seen → Position
-place_of (number w z p) = p
-place_of (other w p) = p
-place_of (bad f) = f.at
-place_of (end p) = p
+abbrev pub seen_at : Seen → Position
+seen_at (number w z p) = p
+seen_at (other w p) = p
+seen_at (bad f) = f.at
+seen_at (end p) = p
 
 -- where a fault stands
-abbrev pub form_place : FormFault → Position
-form_place (F.Word f) = f.at
-form_place (F.Form k p) = p
+abbrev pub form_at : FormFault → Position
+form_at (F.Word f) = f.at
+form_at (F.Form k p) = p
 
-abbrev pub fault_place : BookFault → Position
-fault_place (B.Form f) = form_place f
-fault_place (B.Book e p) = p
+abbrev pub fault_at : BookFault → Position
+fault_at (B.Form f) = form_at f
+fault_at (B.Book e p) = p
 
 -- FAULTS OF THE WORDS AND OF THE FORM
 
@@ -61,7 +61,7 @@ pub data RulesTo : List Seen → List Rule → List Seen → Type 0 where
 -- the first stands there
 abbrev pub Starts : List Seen → Position → Type 0
 Starts [] p = ⊥
-Starts (t ∷ ts) p = place_of t ≡ p
+Starts (t ∷ ts) p = seen_at t ≡ p
 
 -- A head, rules that the books take, and then a rule that they answer with this refusal; its first word stands there, and there are no
 -- more clauses among these than the head says.
@@ -90,5 +90,5 @@ Explained text c g (B.Book e p) = Refused c g (seen_in text) e p
 
 -- a fault stands in the text
 pub record Found (text : List ℕ) (c g : ℕ) (f : BookFault) : Type 0 where
-  pub stands : Stands text (fault_place f)
+  pub stands : Stands text (fault_at f)
   pub explained : Explained text c g f

@@ -5,7 +5,7 @@ use Rattle.rules.specs.Literals.{same}
 use Rattle.rules.proofs.Literals.{same_true, eq_same, all_has, has_all}
 use Rattle.theory.specs.Trail.{Entry, Entry.assumed, Entry.decided, Entry.implied, Trail, on, Grounded, WellFormed}
 use Rattle.theory.specs.Chunks.{joins, in_chunk}
-use Rattle.theory.proofs.Chunks.{no_chunk}
+use Rattle.theory.proofs.Ranks.{chunk_empty}
 use Rattle.theory.proofs.Trails.{AllFalse, meets, meets_cong, on_range}
 use Rattle.session.specs.Words.{word_at, index_of, trail_at, mark_at, row_at, Wrote, Outside}
 use Rattle.session.specs.Decode.{entry_of, entry_at, trail_of, marked, bit, Marked, Coherent}
@@ -23,7 +23,7 @@ marked_is n t test ws m l o = rw (m.on_trail l o) (bit_is (test l))
 -- where the literal is not on the trail and no variable is marked, the marks tell its chunk, which is empty
 pub nothing_marked : (n : ℕ) (t : Trail) (d : ℤ) (ws : List ℤ) → WellFormed n t → on t d ≡ false → ((x : ℕ) → x < n → word_at ws (mark_at n x) ≡ pos 0) → Marked n t (in_chunk d t) ws
 nothing_marked n t d ws formed o clear = record {
-  on_trail = λ l g. clear (index_of l) (index_range n l (on_range n t formed l g)).1 ∙ ap bit (sym (no_chunk d t o l));
+  on_trail = λ l g. clear (index_of l) (index_range n l (on_range n t formed l g)).1 ∙ ap bit (sym (chunk_empty d t o l));
   off_trail = λ l g f f'. clear (index_of l) (index_range n l g).1;
 }
 

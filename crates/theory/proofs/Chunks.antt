@@ -1,8 +1,8 @@
 -- The chunk as a test decides the chunk as a relation.
-use Rattle.std.proofs.Common.{◌≡◌, ℕ, Bool, true, false, List, [], ◌∷◌, ℤ, neg_ℤ, sym, refl, ◌∙◌, subst, inl, inr}
+use Rattle.std.proofs.Common.{◌≡◌, ℕ, true, [], ◌∷◌, ℤ, neg_ℤ, sym, ◌∙◌, subst, inl, inr}
 use mathlib.Core.Bool.{false≢true}
-use Rattle.std.proofs.lemmas.Bool.{cases_Bool, cond_both, or_parts}
-use Rattle.rules.specs.Literals.{same, any_pass}
+use Rattle.std.proofs.lemmas.Bool.{cases_Bool}
+use Rattle.rules.specs.Literals.{same}
 use Rattle.rules.proofs.Literals.{same_true, same_refl, all_has, any_has, has_any}
 use Rattle.theory.specs.Trail.{Entry, Entry.assumed, Entry.decided, Entry.implied, Trail, literal, on, WellFormed}
 use Rattle.theory.specs.Chunks.{Stands, Stands.newest, Stands.older, Chunk, Chunk.of_assumed, Chunk.of_decided, Chunk.by_reason, joins, in_chunk}
@@ -50,16 +50,3 @@ chunk_test n T w d (by_reason {l} {others} k s h c) =
     let g = all_has (λ y. on r.0 (neg_ℤ y) ≡ true) others (part_formed n T r.1 w).0.grounded k h in
     stands_joins d n T w (implied l others) r.0 r.1
     (has_any (λ y. in_chunk d r.0 (neg_ℤ y)) others k h (sym (chunk_part d n T (next r.1) w (neg_ℤ k) g) ∙ chunk_test n T w d c))
-
--- a literal that is not on the trail has no chunk there
-pub no_chunk : (d : ℤ) (t : Trail) → on t d ≡ false → (x : ℤ) → in_chunk d t x ≡ false
-no_chunk d [] o x = refl
-no_chunk d (assumed l ∷ t) o x = let p = or_parts (same d l) (on t d) o in cond_both (same x l) (same d l) (in_chunk d t x) (λ b. b ≡ false) (λ _. p.0) (λ _. no_chunk d t p.1 x)
-no_chunk d (decided l ∷ t) o x = let p = or_parts (same d l) (on t d) o in cond_both (same x l) (same d l) (in_chunk d t x) (λ b. b ≡ false) (λ _. p.0) (λ _. no_chunk d t p.1 x)
-no_chunk d (implied l others ∷ t) o x =
-    let p = or_parts (same d l) (on t d) o in
-    cond_both (same x l) (any_pass (λ k. in_chunk d t (neg_ℤ k)) others) (in_chunk d t x) (λ b. b ≡ false) (λ _. none (in_chunk d t) (no_chunk d t p.1) others) (λ _. no_chunk d t p.1 x)
-  where
-    none : (member : ℤ → Bool) → ((y : ℤ) → member y ≡ false) → (ls : List ℤ) → any_pass (λ k. member (neg_ℤ k)) ls ≡ false
-    none member h [] = refl
-    none member h (k ∷ ls) = rw (h (neg_ℤ k)) (none member h ls)
