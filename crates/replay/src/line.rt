@@ -29,7 +29,7 @@ impl From<AllocError> for Unread {
 }
 
 /// The call that the line says; nothing where it has no word before its comment.
-pub fn read(alloc: Global, line: &[u8]) -> Result<Option<Call>, Unread> {
+pub(crate) fn read(alloc: Global, line: &[u8]) -> Result<Option<Call>, Unread> {
     let said = line.split(|byte| *byte == b'#').next().unwrap_or(line);
     let text = str::from_utf8(said).map_err(|_| Mistake::NotText)?;
     let words = text

@@ -17,7 +17,7 @@ struct Shelf<'a> {
 }
 
 /// Plays the script to its end.
-pub fn play(rt: &HostRuntime) -> anyhow::Result<()> {
+pub(crate) fn play(rt: &HostRuntime) -> anyhow::Result<()> {
     let mut player = Player::new(rt)?;
     for _ in 0..MOST_LINES {
         let mut clause_words = Vec::new(rt.alloc());

@@ -1,4 +1,8 @@
 //! The script that is played, and where its answers go.
+ghost use Rattle.std.specs.Prelude.{◌≡◌, [], Some};
+ghost use Rattle.std.specs.Option.{is_some};
+ghost use Rattle.replay.specs.declared.weighing.Weighing.TheVariants.{Standing};
+
 use crate::answer::Answer;
 use crate::line::{self, Unread};
 use crate::script::{Call, Lending, Mistake};
@@ -26,7 +30,7 @@ pub struct Player<'a> {
 
 impl<'a> Player<'a> {
     /// The script that standard input has.
-    pub fn new(rt: &'a HostRuntime) -> anyhow::Result<Player<'a>> {
+    pub(crate) fn new(rt: &'a HostRuntime) -> anyhow::Result<Player<'a>> {
         let lines = BufReader::new(rt.alloc(), rt.reader())?.split(rt.alloc(), b'\n');
         Ok(Player {
             rt,
@@ -40,7 +44,7 @@ impl<'a> Player<'a> {
 
     /// The next call that only some states take; nothing at the script's end and after a failure. Calls that every state
     /// takes are played on the way.
-    pub fn next_call(&mut self) -> Option<Call> {
+    pub(crate) fn next_call(&mut self) -> Option<Call> {
         if let Some(call) = self.kept.take() {
             return Some(call);
         }
@@ -93,18 +97,25 @@ impl<'a> Player<'a> {
     }
 
     /// Keeps the call, to be played first where all begins anew.
-    pub fn begin_anew(&mut self, call: Call) {
+    pub(crate) fn begin_anew(&mut self, call: Call)
+        ensures kept { self.new.kept ≡ Some call }
+        ensures preferences { self.new.guides.preferences.items ≡ [] }
+        ensures weighing { self.new.guides.weighing ≡ Standing }
+        ensures line { self.new.line ≡ self.old.line }
+    {
         self.kept = Some(call);
         self.guides = Guides::new(self.rt.alloc());
     }
 
     /// Whether a call is kept.
-    pub fn begins_anew(&self) -> bool {
+    pub(crate) fn begins_anew(&self) -> bool
+        ensures { result ≡ is_some self.now.kept }
+    {
         self.kept.is_some()
     }
 
     /// Prints what a call answered.
-    pub fn answer(&mut self, answer: impl Into<Answer>) {
+    pub(crate) fn answer(&mut self, answer: impl Into<Answer>) {
         let answer = answer.into();
         if let Err(error) = println!(self.rt; "{answer}") {
             self.fail(error);
@@ -112,7 +123,7 @@ impl<'a> Player<'a> {
     }
 
     /// Prints why the line plays nothing.
-    pub fn reject(&mut self, mistake: Mistake) {
+    pub(crate) fn reject(&mut self, mistake: Mistake) {
         let line = self.line;
         if let Err(error) = println!(self.rt; "script {line} {mistake}") {
             self.fail(error);
@@ -120,14 +131,14 @@ impl<'a> Player<'a> {
     }
 
     /// Fresh words for a book or a session, which is opened over them whatever they are: that is answered.
-    pub fn lend(&mut self, lending: Lending) -> Option<Vec<i32>> {
+    pub(crate) fn lend(&mut self, lending: Lending) -> Option<Vec<i32>> {
         let words = self.fresh(lending.words.unwrap_or(0))?;
         self.answer(());
         Some(words)
     }
 
     /// So many words or bytes, all 0; nothing where there is no memory.
-    pub fn fresh<T: Clone + Default + Drop>(&mut self, count: usize) -> Option<Vec<T>> {
+    pub(crate) fn fresh<T: Clone + Default + Drop>(&mut self, count: usize) -> Option<Vec<T>> {
         match vec![in self.rt.alloc(); T::default(); count] {
             Ok(fresh) => Some(fresh),
             Err(error) => {
@@ -145,7 +156,7 @@ impl<'a> Player<'a> {
     }
 
     /// Ends the playing, with its failure if there was one.
-    pub fn finish(self) -> anyhow::Result<()> {
+    pub(crate) fn finish(self) -> anyhow::Result<()> {
         match self.failure {
             None => Ok(()),
             Some(error) => Err(error),

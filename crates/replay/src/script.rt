@@ -1,4 +1,7 @@
 //! What a line of a script can say: a call, or why it is none.
+ghost use Rattle.std.specs.Prelude.{◌≡◌};
+ghost use Rattle.replay.specs.Choices.{choice_answer};
+
 use crate::weighing::Weighing;
 use std::fmt;
 
@@ -22,7 +25,9 @@ pub enum Choice {
 
 impl Choice {
     /// Whether the books of this choice stand.
-    pub fn check(self, has_clauses: bool, has_groups: bool) -> Result<(), Mistake> {
+    pub(crate) fn check(self, has_clauses: bool, has_groups: bool) -> Result<(), Mistake>
+        ensures { result ≡ choice_answer self has_clauses has_groups }
+    {
         let needs_clauses = !matches!(self, Choice::Groups);
         let needs_groups = !matches!(self, Choice::Clauses);
         if needs_clauses && !has_clauses {

@@ -1,0 +1,2 @@
+pub mod Guides
+pub mod Choices
