@@ -1,7 +1,7 @@
 -- Laws of the parts of a rule file.
-use Rattle.std.proofs.Common.{◌≡◌, ℕ, ◌<◌, false, List, [], ◌∷◌, length, ℤ, Ok, Err, sym, refl, ap, ◌∙◌, arith, w32, SFits, to_z, of_z}
+use Rattle.std.proofs.Common.{◌≡◌, ℕ, ◌<◌, true, false, List, [], ◌∷◌, length, ℤ, Ok, Err, Result, sym, refl, ap, ◌∙◌, arith, w32, SFits, to_z, of_z}
 use Rattle.std.proofs.lemmas.Int.{to_z-of_z}
-use Rattle.std.proofs.lemmas.Bool.{cond-false}
+use Rattle.std.proofs.lemmas.Bool.{cond-true, cond-false}
 use Rattle.rules.specs.Rows.{is_zero}
 use Rattle.rulefile.specs.declared.form.Number.{Number}
 use Rattle.rulefile.specs.Words.{Seen, number, other, bad, end}
@@ -25,6 +25,10 @@ abbrev left : {X : Type 0} → Taken X → ℕ
 left (Ok t) = length t.1
 left (Err f) = 0
 
+-- a refusal is not a result
+pub err_ok : {X E : Type 0} {f : E} {x : X} → ◌≡◌ {A = Result X E} (Err f) (Ok x) → ⊥
+err_ok e = cc
+
 -- a number is one word
 pub number_shorter : (ts rest : List Seen) (x : Number ℤ) → number_next ts ≡ Ok (x, rest) → length rest < length ts
 number_shorter [] rest x e = cc
@@ -47,3 +51,7 @@ module _ {B : Type 0} (push : B → ℤ → B) where
       ap (pushes push b) (cond-false (is_zero z) _ _ h) ∙ pushes_one b z (literals_next ts)
       ∙ ap (λ k. pushes push k (literals_next ts)) (sym (e ∙ ap (push b) (to_z-of_z w32 z fits)))
       ∙ ap (pushes push b') (literals_number ts ∙ ap literals_of n)
+
+  -- the 0 that ends them
+  pub pushes_end : (b : B) (z : ℤ) (ts : List Seen) → is_zero z ≡ true → pushes push b (literals_from z ts) ≡ Ok (b, ts)
+  pushes_end b z ts h = ap (pushes push b) (cond-true (is_zero z) _ _ h)

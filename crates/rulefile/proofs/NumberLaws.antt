@@ -1,14 +1,15 @@
 -- Laws of numerals: one digit more.
-use Rattle.std.proofs.Common.{Some, Option, ◌≡◌, ℕ, ◌+◌, ◌-◌, ◌*◌, ◌^◌, ◌<◌, ◌≤◌, true, ◌&&◌, List, [], ◌∷◌, length, sym, refl, ap, ◌∙◌, arith, lit<, pow-add}
+use Rattle.std.proofs.Common.{Some, Option, ◌≡◌, ℕ, ◌+◌, ◌-◌, ◌*◌, ◌^◌, ◌<◌, ◌≤◌, true, ◌&&◌, eqb, List, [], ◌∷◌, length, get_or, take, drop, sym, refl, ap, ◌∙◌, arith, lit<, pow-add}
 use native.Mathlib.Nat.{pow-le-pow_right}
 use Rattle.std.proofs.Math.Nat.{one-le-pow}
 use Rattle.std.specs.Char.{is_ascii_digit}
 use Rattle.std.specs.Iterator.{Yields, CallableAtEachTurn}
 use Rattle.std.specs.List.{list_all, FoldsTo}
 use Rattle.std.specs.Str.{all_ascii_digits}
-use Rattle.std.proofs.lemmas.Bool.{and_parts}
+use Rattle.std.proofs.lemmas.List.{at_drop_more, take_rest}
+use Rattle.std.proofs.lemmas.Bool.{and_parts, cond-true, eq-eqb}
 use Rattle.std.proofs.lemmas.Bool.Decides.{nat_tests}
-use Rattle.rulefile.specs.Numbers.{value_from}
+use Rattle.rulefile.specs.Numbers.{value_from, number_of, natural, signed, minus}
 
 -- the library's test of all bytes
 pub digits_each : (bs : List ℕ) → list_all is_ascii_digit bs ≡ all_ascii_digits bs
@@ -18,11 +19,24 @@ digits_each (b ∷ bs) = ap (λ t. is_ascii_digit b && t) (digits_each bs)
 digit_bounds : (b : ℕ) → is_ascii_digit b ≡ true → (48 ≤ b) × (b ≤ 57)
 digit_bounds b e = (grind (arith, nat_tests), grind (arith, nat_tests))
 
+-- where only digits are left, the next byte is one, and so are those behind it
+pub digits_first : (s : List ℕ) (i : ℕ) → i < length s → all_ascii_digits (drop i s) ≡ true
+    → (48 ≤ get_or s i 0) × (get_or s i 0 ≤ 57) × (all_ascii_digits (drop (i + 1) s) ≡ true)
+digits_first s i h e =
+    let both = and_parts (is_ascii_digit (get_or s i 0)) (all_ascii_digits (drop (i + 1) s)) (sym (at_drop_more all_ascii_digits s i 0 h) ∙ e) in
+    let d = digit_bounds (get_or s i 0) both.0 in
+    (d.0, d.1, both.1)
+
 pub power_more : (n d i : ℕ) → n < 10 ^ i → d ≤ 9 → n * 10 + d < 10 ^ (i + 1)
 power_more n d i h k = let e : 10 ^ (i + 1) ≡ 10 ^ i * 10 = pow-add 10 i 1 in omega arith
 
 pub power_below : (n i k : ℕ) → n < 10 ^ i → i ≤ k → n < 10 ^ k
 power_below n i k h l = omega (arith, pow-le-pow_right {n = 10} (lit< tt) l)
+
+-- behind a minus, a word is the number that the rest writes, negated
+pub after_minus : (w : List ℕ) → 0 < length w → get_or w 0 0 ≡ 45 → signed minus (natural (take (length w - 1) (drop 1 w))) ≡ number_of w
+after_minus [] h e = absurd (omega arith)
+after_minus (b ∷ bs) h e = ap (λ l. signed minus (natural l)) (take_rest (b ∷ bs) 1) ∙ sym (cond-true (eqb b 45) _ _ (eq-eqb b 45 e))
 
 -- A LOOP OVER DIGITS: n is the number that those before `rest` write.
 pub record Folded (digits rest : List ℕ) (n : ℕ) : Type 0 where

@@ -31,6 +31,10 @@ run_position bs =
     let short : position_or_len is_gap bs ≤ length bs = omega (arith, run_within bs, run_place bs) in
     cond_both (ltb (position_or_len is_gap bs) (length bs)) (Some (position_or_len is_gap bs)) None (λ o. unwrap_or o (length bs) ≡ run bs) (λ _. sym (run_place bs)) (λ e. grind (arith, nat_tests, run_place))
 
+-- at a byte of a gap no word goes on
+pub run_stop : (s : List ℕ) (n : ℕ) → n < length s → is_gap (get_or s n 0) ≡ true → run (drop n s) ≡ 0
+run_stop s n h e = at_drop_more run s n 0 h ∙ ap (λ (t : Bool). cond t 0 (run (drop (n + 1) s) + 1)) e
+
 pub run_more : (s : List ℕ) (n : ℕ) → n < length s → is_gap (get_or s n 0) ≡ false → run (drop n s) ≡ run (drop (n + 1) s) + 1
 run_more s n h e = at_drop_more run s n 0 h ∙ ap (λ (t : Bool). cond t 0 (run (drop (n + 1) s) + 1)) e
 
@@ -38,6 +42,15 @@ run_more s n h e = at_drop_more run s n 0 h ∙ ap (λ (t : Bool). cond t 0 (run
 
 abbrev gap_on : ℕ → ℕ → ℕ → List ℕ → Option Mode → Spot
 gap_on p l b bs o = elim o [ None ↦ spot p l (b ∷ bs) | Some n ↦ gap n (p + 1) (line_after l b) bs ]
+
+-- where a gap goes on over a byte, it is the gap from the next byte on
+pub gap_more : (m k : Mode) (p l : ℕ) (s : List ℕ) → p < length s → passed m (get_or s p 0) ≡ Some k
+    → gap m p l (drop p s) ≡ gap k (p + 1) (line_after l (get_or s p 0)) (drop (p + 1) s)
+gap_more m k p l s h e = at_drop_more (gap m p l) s p 0 h ∙ ap (gap_on p l (get_or s p 0) (drop (p + 1) s)) e
+
+-- where it does not go on over a byte, it ends there
+pub gap_stop : (m : Mode) (p l : ℕ) (s : List ℕ) → p < length s → passed m (get_or s p 0) ≡ None → gap m p l (drop p s) ≡ spot p l (drop p s)
+gap_stop m p l s h e = at_drop_more (gap m p l) s p 0 h ∙ ap (gap_on p l (get_or s p 0) (drop (p + 1) s)) e ∙ sym (at_drop_more (spot p l) s p 0 h)
 
 line_stop : (k : Class) (o : Option Mode) → in_line k o ≡ None → gap_class k ≡ false
 line_stop Blank o e = cc

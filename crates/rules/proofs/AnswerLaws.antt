@@ -20,13 +20,13 @@ module _ {A : Type 0} (p : A → Bool) (p-clause : A → List ℤ) (q : A → Bo
   told_with found xs = tell_first p p-clause xs (or_else found (tell_first q q-clause xs silent))
 
   -- what is found with one rule more
-  abbrev found_with : Answer → A → Answer
+  abbrev pub found_with : Answer → A → Answer
   found_with found x = cond (q x) (or_else found (tells (q-clause x))) found
 
   pub told_hit : (found : Answer) (x : A) (xs : List A) → p x ≡ true → told_with found (x ∷ xs) ≡ tells (p-clause x)
   told_hit found x xs h = cond-true (p x) (tells (p-clause x)) (tell_first p p-clause xs (or_else found (tell_first q q-clause (x ∷ xs) silent))) h
 
-  told_next : (found : Answer) (x : A) (xs : List A) → p x ≡ false → told_with found (x ∷ xs) ≡ told_with (found_with found x) xs
+  pub told_next : (found : Answer) (x : A) (xs : List A) → p x ≡ false → told_with found (x ∷ xs) ≡ told_with (found_with found x) xs
   told_next found x xs h =
       let rest = tell_first q q-clause xs silent in
       cond-false (p x) (tells (p-clause x)) (tell_first p p-clause xs (or_else found (cond (q x) (tells (q-clause x)) rest))) h

@@ -18,6 +18,14 @@ use Rattle.rules.proofs.RowLaws.{pass_push}
 use Rattle.rules.proofs.RowBuffers.{pushed_both}
 use Rattle.rules.proofs.DraftLaws.{whole_rule}
 
+abbrev parts : ℕ → ℕ → List (List ℤ) → List ℤ → Option Refusal → Filling
+parts v s cs d f = record { variables = v; size = s; clauses = cs; draft = d; fault = f }
+
+-- fillings with the same parts are the same
+pub same_parts : {v v' s s' : ℕ} {cs cs' : List (List ℤ)} {d d' : List ℤ} {f f' : Option Refusal} → v ≡ v' → s ≡ s' → cs ≡ cs' → d ≡ d' → f ≡ f'
+    → parts v s cs d f ≡ parts v' s' cs' d' f'
+same_parts a b c e g = cc
+
 no_repeat_push : (ls : List ℤ) (l : ℤ) → no_repeat ls ≡ true → has ls l ≡ false → no_repeat (ls ++ (l ∷ [])) ≡ true
 no_repeat_push [] l h e = refl
 no_repeat_push (k ∷ ls) l h e =

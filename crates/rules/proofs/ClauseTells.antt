@@ -1,14 +1,18 @@
 -- Going over the clauses of a book for what it tells.
-use Rattle.std.proofs.Common.{◌≡◌, Bool, true, false, List, ◌∷◌, ℤ, Some, None, Option, sym, refl, ap, ◌∙◌}
+use Rattle.std.proofs.Common.{◌≡◌, ℕ, ◌+◌, ◌-◌, ◌<◌, ◌≤◌, Bool, true, false, not, List, ◌∷◌, length, get_or, take, drop, ℤ, pos, Some, None, Option, sym, refl, ap, ◌∙◌, subst}
 use Rattle.std.specs.Option.{option_or}
 use Rattle.rules.specs.Clauses.{status, is_falsified, is_unit, Status, Status.falsified, Status.unit, Status.other}
 use Rattle.rules.specs.Sources.{true_in, Answer, Answer.tells, or_else}
-use Rattle.rules.specs.Values.{kind_of}
+use Rattle.rules.specs.Rows.{is_zero}
+use Rattle.rules.specs.Values.{value_in, kind_of, with_value}
 use Rattle.rules.specs.ClauseTelling.{row_answer}
 use Rattle.rules.specs.declared.status.ClauseStatus.{ClauseStatus}
 use Rattle.rules.specs.declared.status.ClauseStatus.TheVariants.{Falsified, Unit, Other}
 use Rattle.std.specs.Borrow.{Bor}
 use Rattle.rules.proofs.AnswerLaws.{told_with, told_hit, told_second, told_neither}
+use Rattle.rules.proofs.RowLaws.{none_zero, pass_push, part_push}
+use Rattle.rules.proofs.Valuations.{one_true}
+use Rattle.rules.proofs.Values.{status_push}
 
 -- the two tests of a clause under a row
 abbrev pub falsifies : List ℤ → List ℤ → Bool
@@ -36,6 +40,20 @@ pub is_other_kind : (s : Status) → kind_of s ≡ Other → (is_falsified s ≡
 is_other_kind falsified e = (cc, cc)
 is_other_kind (unit l) e = (cc, cc)
 is_other_kind other e = (refl, refl)
+
+-- one literal on in the clause from s to p
+pub part_next : (row ws : List ℤ) (s p : ℕ) (k : ClauseStatus) → s ≤ p → p < length ws → is_zero (get_or ws p (pos 0)) ≡ false
+    → (none_zero (take (p - s) (drop s ws)) ≡ true) × (k ≡ kind_of (status (true_in row) (take (p - s) (drop s ws))))
+    → (none_zero (take (p + 1 - s) (drop s ws)) ≡ true)
+    × (with_value k (value_in (true_in row) (get_or ws p (pos 0))) ≡ kind_of (status (true_in row) (take (p + 1 - s) (drop s ws))))
+part_next row ws s p k a b z i =
+    let part = take (p - s) (drop s ws) in
+    let w = get_or ws p (pos 0) in
+    let e = sym (part_push ws s p a b) in (
+      subst (λ r. none_zero r ≡ true) e (pass_push (λ x. not (is_zero x)) part w i.0 (ap not z)),
+      ap (λ j. with_value j (value_in (true_in row) w)) i.1 ∙ sym (status_push (true_in row) part w (one_true row w))
+          ∙ ap (λ r. kind_of (status (true_in row) r)) e,
+    )
 
 -- one clause on: it is falsified and told, or it is found if it is the first unit one, or it is neither
 module _ (row : List ℤ) (found : Answer) (C : List ℤ) (k : ClauseStatus) (is : k ≡ kind_of (status (true_in row) C)) (rest : List (List ℤ)) where

@@ -1,7 +1,12 @@
 -- Laws of a rule that is being written.
-use Rattle.std.proofs.Common.{◌≡◌, Bool, true, false, List, [], ◌∷◌, ℤ, Some, None, Ok, fold, Option, sym, refl, ap, ◌∙◌}
-use Rattle.rules.specs.Drafts.{Reply, reply}
+use Rattle.std.proofs.Common.{◌≡◌, ℕ, ◌≤◌, Bool, true, false, ltb, List, [], ◌∷◌, ℤ, Some, None, Ok, fold, Option, sym, refl, ap, ◌∙◌, arith}
+use Rattle.std.proofs.lemmas.Bool.{cond_both, ltb-false}
+use Rattle.rules.specs.Drafts.{book_count, Reply, reply}
 use Rattle.rules.specs.declared.refusal.Refusal.{Refusal}
+
+-- a book has at most 1,000 variables
+pub count_few : (n : ℕ) → book_count n ≤ 1000
+count_few n = cond_both (ltb 1000 n) 0 n (λ k. k ≤ 1000) (λ _. omega arith) (λ h. ltb-false 1000 n h)
 
 -- a rule that is taken has earned no refusal, and the book is not full for it
 pub reply_ok : (f : Option Refusal) (full : Bool) → reply f full ≡ Ok tt → (f ≡ None) × (full ≡ false)

@@ -8,16 +8,25 @@ use Rattle.std.proofs.lemmas.Bool.Decides.{nat_tests}
 use Rattle.rules.specs.Literals.{var, in_range}
 use Rattle.rules.specs.Books.{Group, rising, group_fits}
 use Rattle.rules.specs.Rows.{words_of, spelled}
-use Rattle.rules.specs.RowBuffers.{Content}
+use Rattle.rules.specs.RowBuffers.{Content, content}
 use Rattle.rules.specs.RowBuffers as B
 use Rattle.rules.specs.Drafts.{unless, Reply, reply}
 use Rattle.rules.specs.GroupRows.{as_row, last_word, as_group, is_limit, group_row_fits, draft_fits}
 use Rattle.rules.specs.declared.refusal.Refusal.{Refusal}
 use Rattle.rules.specs.declared.refusal.Refusal.TheVariants.{NoVariable, NoRoom, NotRising}
+use Rattle.rules.specs.declared.groups.GroupBook.{GroupBook}
 use Rattle.rules.specs.GroupFilling.{Filling, raised, groups_of, all_words, writing, clean, faulted, extended, written, risen, fallen, pushed, no_place, ending, group_of, settled, answer_to}
 use Rattle.rules.proofs.RowLaws.{pass_weaker, pass_push}
 use Rattle.rules.proofs.RowBuffers.{pushed_both}
 use Rattle.rules.proofs.DraftLaws.{reply_ok, whole_rule}
+
+abbrev parts : ℕ → ℕ → List Group → List ℤ → ℕ → Option Refusal → Filling
+parts v s gs d k f = record { variables = v; size = s; groups = gs; draft = d; last = k; fault = f }
+
+-- fillings with the same parts are the same
+pub same_parts : {v v' s s' : ℕ} {gs gs' : List Group} {d d' : List ℤ} {k k' : ℕ} {f f' : Option Refusal}
+    → v ≡ v' → s ≡ s' → gs ≡ gs' → d ≡ d' → k ≡ k' → f ≡ f' → parts v s gs d k f ≡ parts v' s' gs' d' k' f'
+same_parts a b c e g h = cc
 
 -- A GROUP AS A ROW
 
@@ -81,6 +90,10 @@ draft_from : (n last : ℕ) (ls : List ℤ) → Drafted n last ls → draft_fits
 draft_from n last ls d =
     and_from (list_all (in_range n) ls) (rising 0 ls && list_all (λ x. leb (var x) last) ls) d.0 (and_from (rising 0 ls) (list_all (λ x. leb (var x) last) ls) d.1 d.2)
 
+-- the last variable may be taken for a higher one
+draft_raised : (n last k : ℕ) (ls : List ℤ) → last ≤ k → draft_fits n last ls ≡ true → draft_fits n k ls ≡ true
+draft_raised n last k ls h d = let p = draft_parts n last ls d in draft_from n k ls (p.0, p.1, all_below last k ls h p.2)
+
 -- a literal that rises joins the others
 draft_push : (n last : ℕ) (ls : List ℤ) (l : ℤ) → draft_fits n last ls ≡ true → in_range n l ≡ true → last < var l → draft_fits n (var l) (ls ++ (l ∷ [])) ≡ true
 draft_push n last ls l d r e =
@@ -105,6 +118,18 @@ draft_row n last m ls d =
 -- what a book keeps of its rows, where the last variable that rose is this one
 abbrev pub Kept : ℕ → Content → Type 0
 Kept last b = (list_all (group_row_fits b.variables) b.standing ≡ true) × (unless b.fault (draft_fits b.variables last) b.draft ≡ true)
+
+-- the last variable that rose may be taken for a higher one
+pub kept_raised : (last k : ℕ) (b : Content) → last ≤ k → Kept last b → Kept k b
+kept_raised last k b h kept = (kept.0, by b.fault kept.1)
+  where
+    by : (f : Option Refusal) → unless f (draft_fits b.variables last) b.draft ≡ true → unless f (draft_fits b.variables k) b.draft ≡ true
+    by None d = draft_raised b.variables last k b.draft h d
+    by (Some r) d = refl
+
+-- so it may for a book of groups
+pub book_raised : (b : GroupBook) (k : ℕ) → b.last ≤ k → Kept k (content b.buffer)
+book_raised b k h = kept_raised b.last k (content b.buffer) h (b.fit, b.drafted)
 
 -- the words that the rows take, and the words of the book, by its groups
 pub groups_words : (b : Content) → list_all (group_row_fits b.variables) b.standing ≡ true → words_of (map as_row (map as_group b.standing)) ≡ words_of b.standing

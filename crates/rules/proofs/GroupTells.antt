@@ -1,8 +1,11 @@
 -- Going over the groups of a book for what it tells.
-use Rattle.std.proofs.Common.{◌≡◌, ℕ, ◌+◌, ◌<◌, ◌≤◌, Bool, true, false, cond, not, ◌&&◌, ◌||◌, List, [], ◌∷◌, ◌++◌, map, length, take, set, ℤ, pos, negsuc, neg_ℤ, Some, None, filter, Option, sym, refl, ap, ◌∙◌, subst, arith, take_all, nat_lt, w32, SFits}
+use Rattle.std.proofs.Common.{◌≡◌, ℕ, zero, suc, ◌+◌, ◌<◌, ◌≤◌, min, Bool, true, false, cond, not, ◌&&◌, ◌||◌, ◌⊎◌, List, [], ◌∷◌, ◌++◌, map, length, get_or, take, drop, set, ℤ, pos, negsuc, neg_ℤ, nat_abs, Some, None, filter, Option, sym, refl, ap, ◌∙◌, subst, inl, inr, arith, take_all, nat_lt, w32, SFits}
+use mathlib.Core.Bool.{false≢true}
 use Rattle.std.specs.List.{list_all, list_any}
-use Rattle.std.proofs.lemmas.List.Elements.{filter_agree}
-use Rattle.std.proofs.lemmas.List.{length-map, map_push, length-take}
+use Rattle.std.proofs.lemmas.List.Elements.{All-get_or, filter-append, filter_agree, filter_more}
+use Rattle.std.proofs.lemmas.List.Filters.{length-filter_more}
+use Rattle.std.proofs.lemmas.List.Sums.{AllPass-from_list_all}
+use Rattle.std.proofs.lemmas.List.{append-nil, drop_more, length-map, length_push, map_push, length-take, take-append-drop, take-append-le}
 use Rattle.std.proofs.lemmas.Bool.{and_parts, and_from, cond-true, cond-false, lt-ltb, le-ltb, eq-eqb, ne_eqb}
 use Rattle.rules.specs.Literals.{var, in_range}
 use Rattle.rules.specs.Sources.{true_in, Answer, Answer.tells, or_else, page_after}
@@ -13,15 +16,67 @@ use Rattle.rules.specs.Values.{value_in}
 use Rattle.std.specs.Option.{option_or}
 use Rattle.rules.specs.declared.groups.GroupRow.{GroupRow}
 use Rattle.rules.specs.declared.status.ClauseStatus.TheVariants.{Falsified, Unit as UnitOf, Other}
+use Rattle.rules.specs.declared.literal.Value.{Value}
 use Rattle.rules.specs.declared.literal.Value.TheVariants.{True, False, Unassigned}
 use Rattle.rules.proofs.Literals.{range_bounds, bounds_range}
 use Rattle.rules.proofs.AnswerLaws.{told_with, told_hit, told_second, told_neither}
 use Rattle.rules.proofs.RowLaws.{pass_weaker}
-use Rattle.rules.proofs.Pages.{page_push}
+use Rattle.rules.proofs.Pages.{page_push, page_push_behind}
+
+-- a row with a limit is not empty
+pub limit_long : (row : List ℤ) → is_limit (last_word row) ≡ true → 1 ≤ length row
+limit_long [] h = absurd (false≢true h)
+limit_long (w ∷ row) h = omega arith
+
+-- the word of a limit is at least 1
+pub limit_word : (w : ℤ) → is_limit w ≡ true → 1 ≤ nat_abs w
+limit_word (pos zero) h = absurd (false≢true h)
+limit_word (pos (suc k)) h = omega arith
+limit_word (negsuc k) h = absurd (false≢true h)
+
+-- what a value adds to the number of true literals
+abbrev pub one_true_more : Value → ℕ
+one_true_more True = 1
+one_true_more False = 0
+one_true_more Unassigned = 0
+
+-- and to that of unassigned ones
+abbrev pub one_open_more : Value → ℕ
+one_open_more True = 0
+one_open_more False = 0
+one_open_more Unassigned = 1
+
+-- the numbers of true and of unassigned literals, with one literal more
+pub counted : (f : ℤ → Bool) (ls : List ℤ) (i : ℕ) (v : Value) → i < length ls → v ≡ value_in f (get_or ls i (pos 0))
+    → (length (filter f (take (i + 1) ls)) ≡ length (filter f (take i ls)) + one_true_more v)
+    × (length (filter (is_open f) (take (i + 1) ls)) ≡ length (filter (is_open f) (take i ls)) + one_open_more v)
+counted f ls i v h e =
+    let l = get_or ls i (pos 0) in
+    let r = by (f l) (f (neg_ℤ l)) in (
+      length-filter_more f ls i (pos 0) h ∙ ap (λ k. length (filter f (take i ls)) + k) (r.0 ∙ ap one_true_more (sym e)),
+      length-filter_more (is_open f) ls i (pos 0) h ∙ ap (λ k. length (filter (is_open f) (take i ls)) + k) (r.1 ∙ ap one_open_more (sym e)),
+    )
+  where
+    by : (a b : Bool) → let v = cond a True (cond b False Unassigned) in (cond a 1 0 ≡ one_true_more v) × (cond (not a && not b) 1 0 ≡ one_open_more v)
+    by true b = (refl, refl)
+    by false true = (refl, refl)
+    by false false = (refl, refl)
+
+-- a value adds at most one to each
+pub more_one : (v : Value) → (one_true_more v ≤ 1) × (one_open_more v ≤ 1)
+more_one True = (omega arith, omega arith)
+more_one False = (omega arith, omega arith)
+more_one Unassigned = (omega arith, omega arith)
 
 -- literals of at most 1,000 variables
 ranged_few : (n : ℕ) (ls : List ℤ) → n ≤ 1000 → list_all (in_range n) ls ≡ true → list_all (in_range 1000) ls ≡ true
 ranged_few n ls h = pass_weaker (in_range n) (in_range 1000) (λ l r. let b = range_bounds n l r in bounds_range 1000 l b.0 (omega arith)) ls
+
+-- the variable of each is at most 1,000
+pub ranged_small : (n : ℕ) (ls : List ℤ) (i : ℕ) → n ≤ 1000 → list_all (in_range n) ls ≡ true → i < length ls → var (get_or ls i (pos 0)) ≤ 1000
+ranged_small n ls i h r l =
+    let b = range_bounds n (get_or ls i (pos 0)) (All-get_or (λ x. in_range n x ≡ true) ls i (pos 0) l (AllPass-from_list_all (in_range n) ls r)) in
+    omega arith
 
 pub small_fits : (l : ℤ) → var l ≤ 1000 → SFits w32 l
 small_fits (pos v) h = record { sfits = omega arith }
@@ -43,6 +98,48 @@ is_open_value f l = by (f l) (f (neg_ℤ l))
     by true b = refl
     by false true = refl
     by false false = refl
+
+-- the first m + 1 that pass, with one literal more that is wanted
+module _ (p : ℤ → Bool) (ls : List ℤ) (m i : ℕ) (h : i < length ls) where
+  abbrev front : ℕ → List ℤ
+  front k = take (m + 1) (filter p (take k ls))
+
+  -- where fewer have passed so far, a literal that passes is one more of them
+  pub front_takes : length (front i) ≤ m → p (get_or ls i (pos 0)) ≡ true → front (i + 1) ≡ front i ++ (get_or ls i (pos 0) ∷ [])
+  front_takes short e =
+      let K = filter p (take i ls) in
+      let x = get_or ls i (pos 0) in
+      let t = length-take (m + 1) K in
+      let p' = length_push K x in
+      ap (take (m + 1)) (filter_more p ls i (pos 0) h ∙ ap (λ k. K ++ k) (cond-true (p x) (x ∷ []) [] e))
+      ∙ take_all (m + 1) (K ++ (x ∷ [])) (omega arith) ∙ ap (λ k. k ++ (x ∷ [])) (sym (take_all (m + 1) K (omega arith)))
+
+  -- a literal that does not pass, or that comes after as many, adds nothing
+  pub front_stays : (p (get_or ls i (pos 0)) ≡ false) ⊎ (m < length (front i)) → front (i + 1) ≡ front i
+  front_stays (inl e) =
+      let K = filter p (take i ls) in
+      let x = get_or ls i (pos 0) in
+      ap (take (m + 1)) (filter_more p ls i (pos 0) h ∙ ap (λ k. K ++ k) (cond-false (p x) (x ∷ []) [] e) ∙ append-nil K)
+  front_stays (inr l) =
+      let K = filter p (take i ls) in
+      let x = get_or ls i (pos 0) in
+      let t = length-take (m + 1) K in
+      ap (take (m + 1)) (filter_more p ls i (pos 0) h) ∙ take-append-le (m + 1) K (cond (p x) (x ∷ []) []) (omega arith)
+
+-- where none has passed so far and the next literal does not, none has passed
+pub none_stays : (p : ℤ → Bool) (ls : List ℤ) (i : ℕ) → i < length ls → filter p (take i ls) ≡ [] → p (get_or ls i (pos 0)) ≡ false
+    → filter p (take (i + 1) ls) ≡ []
+none_stays p ls i h none e =
+    let x = get_or ls i (pos 0) in
+    filter_more p ls i (pos 0) h ∙ ap (λ k. k ++ cond (p x) (x ∷ []) []) none ∙ cond-false (p x) (x ∷ []) [] e
+
+-- the first that passes, where none did before it
+pub first_kept : (p : ℤ → Bool) (ls : List ℤ) (i : ℕ) → i < length ls → filter p (take i ls) ≡ [] → p (get_or ls i (pos 0)) ≡ true
+    → filter p ls ≡ get_or ls i (pos 0) ∷ filter p (drop (i + 1) ls)
+first_kept p ls i h none e =
+    let x = get_or ls i (pos 0) in
+    ap (filter p) (sym (take-append-drop i ls)) ∙ filter-append p (take i ls) (drop i ls) ∙ ap (λ k. k ++ filter p (drop i ls)) none
+    ∙ ap (filter p) (drop_more ls i (pos 0) h) ∙ cond-true (p x) (x ∷ filter p (drop (i + 1) ls)) (filter p (drop (i + 1) ls)) e
 
 -- whether some element passes is whether those that pass are more than none
 some_pass : {X : Type 0} (p : X → Bool) (xs : List X) → list_any p xs ≡ nat_lt 0 (length (filter p xs))
@@ -80,6 +177,15 @@ module _ (f : ℤ → Bool) (G : Group) (n : ℕ) (counted : n ≡ length (filte
 abbrev pub group_told : List ℤ → Answer → List Group → Answer
 group_told row = told_with (over (true_in row)) (over_clause (true_in row)) (tight (true_in row)) (tight_clause (true_in row))
 
+-- a page on which the negations of C are laid, with one more
+pub page_turn : (n : ℕ) (start C : List ℤ) (x : ℤ) (page : List ℤ) (len : ℕ) → page ≡ page_after n (tells (map neg_ℤ C)) start → len ≡ length C
+    → set page (min (length page) n + len) (neg_ℤ x) ≡ page_after n (tells (map neg_ℤ (C ++ (x ∷ [])))) start
+page_turn n start C x page len e k =
+    let D = map neg_ℤ C in
+    ap (λ q. set q (min (length q) n + len) (neg_ℤ x)) e
+    ∙ ap (λ j. set (page_after n (tells D) start) (min (length (page_after n (tells D) start)) n + j) (neg_ℤ x)) (k ∙ sym (length-map C neg_ℤ))
+    ∙ page_push_behind n D start (neg_ℤ x) ∙ ap (λ q. page_after n (tells q) start) (sym (map_push neg_ℤ C x))
+
 -- room into which the negations of C are laid behind n words, with one more
 pub room_turn : (n : ℕ) (start C : List ℤ) (x : ℤ) (room : List ℤ) (now : ℕ) → room ≡ page_after n (tells (map neg_ℤ C)) start → now ≡ n + length C
     → set room now (neg_ℤ x) ≡ page_after n (tells (map neg_ℤ (C ++ (x ∷ [])))) start
@@ -102,7 +208,7 @@ module _ (f : ℤ → Bool) (G : Group) where
       ∙ ap (λ k. map neg_ℤ (k ++ take 1 (open_ones f G))) (sym (take_all (G.most + 1) (true_ones f G) (omega arith)))
 
 -- how a group stands, by the tests
-status_over : (f : ℤ → Bool) (G : Group) → group_status f G ≡ Falsified → over f G ≡ true
+pub status_over : (f : ℤ → Bool) (G : Group) → group_status f G ≡ Falsified → over f G ≡ true
 status_over f G = by (over f G) (tight f G)
   where
     by : (a b : Bool) → cond a Falsified (cond b UnitOf Other) ≡ Falsified → a ≡ true
@@ -110,7 +216,7 @@ status_over f G = by (over f G) (tight f G)
     by false true e = cc
     by false false e = cc
 
-status_tight : (f : ℤ → Bool) (G : Group) → group_status f G ≡ UnitOf → (over f G ≡ false) × (tight f G ≡ true)
+pub status_tight : (f : ℤ → Bool) (G : Group) → group_status f G ≡ UnitOf → (over f G ≡ false) × (tight f G ≡ true)
 status_tight f G = by (over f G) (tight f G)
   where
     by : (a b : Bool) → cond a Falsified (cond b UnitOf Other) ≡ UnitOf → (a ≡ false) × (b ≡ true)
@@ -118,7 +224,7 @@ status_tight f G = by (over f G) (tight f G)
     by false true e = (refl, refl)
     by false false e = (cc, cc)
 
-status_other : (f : ℤ → Bool) (G : Group) → group_status f G ≡ Other → (over f G ≡ false) × (tight f G ≡ false)
+pub status_other : (f : ℤ → Bool) (G : Group) → group_status f G ≡ Other → (over f G ≡ false) × (tight f G ≡ false)
 status_other f G = by (over f G) (tight f G)
   where
     by : (a b : Bool) → cond a Falsified (cond b UnitOf Other) ≡ Other → (a ≡ false) × (b ≡ false)
@@ -146,7 +252,8 @@ module _ (row : List ℤ) (found : Answer) (G : Group) (rest : List Group) where
       ∙ told_second (over f) (over_clause f) (tight f) (tight_clause f) found G rest s.0 s.1
 
 -- the first of two groups, as answers
-or_group : (f : ℤ → Bool) (a : Option GroupRow) (row : GroupRow) → group_answer f (option_or a (Some row)) ≡ or_else (group_answer f a) (tells (group_clause f (group_in row)))
+pub or_group : (f : ℤ → Bool) (a : Option GroupRow) (row : GroupRow)
+    → group_answer f (option_or a (Some row)) ≡ or_else (group_answer f a) (tells (group_clause f (group_in row)))
 or_group f None row = refl
 or_group f (Some b) row = refl
 

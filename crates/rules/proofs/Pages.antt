@@ -1,7 +1,7 @@
 -- Laws of pages: a valuation, with room behind it for a clause.
 use Rattle.std.proofs.Common.{◌≡◌, ℕ, zero, suc, ◌+◌, ◌-◌, ◌≤◌, min, ◌⊎◌, List, [], ◌∷◌, ◌++◌, length, take, drop, set, ℤ, sym, refl, ap, ◌∙◌, inl, inr, arith, take_all, length-take-le}
 use borrow.Rule.Slice.PartMut.{put_mid}
-use Rattle.std.proofs.lemmas.List.{take_min, drop_min, append-nil, drop_all, length-drop, set-append_right, set_past}
+use Rattle.std.proofs.lemmas.List.{take_min, drop_min, append-nil, drop_all, length-append, length-drop, length-take, set-append_right, set_past, take-append-drop, take_at}
 use Rattle.std.proofs.lemmas.Bool.{cases_lt}
 use Rattle.rules.specs.Sources.{Answer.tells, laid, page_after}
 
@@ -24,16 +24,37 @@ laid_none (l ∷ C) = refl
 page_short : (n : ℕ) (C page : List ℤ) → length page ≤ n → page_after n (tells C) page ≡ page
 page_short n C page h = ap (λ r. take n page ++ r) (ap (laid C) (drop_all n page h) ∙ laid_none C) ∙ append-nil (take n page) ∙ take_all n page h
 
+-- a clause leaves the valuation
+pub page_front : (n : ℕ) (C page : List ℤ) → take n (page_after n (tells C) page) ≡ take n page
+page_front n C page = elim (cases_lt (length page) n)
+    [ inl h ↦ ap (take n) (page_short n C page (omega arith)) | inr h ↦ take_at (take n page) (laid C (drop n page)) n (length-take-le n page h) ]
+
+-- and the page's length
+page_long : (n : ℕ) (C page : List ℤ) → length (page_after n (tells C) page) ≡ length page
+page_long n C page =
+    let front = take n page in
+    length-append front (laid C (drop n page)) ∙ ap (λ k. length front + k) (laid_length C (drop n page)) ∙ sym (length-append front (drop n page))
+    ∙ ap length (take-append-drop n page)
+
+-- one more word of the clause, behind as much of the valuation as the page has
+pub page_push_behind : (n : ℕ) (C page : List ℤ) (l : ℤ)
+    → set (page_after n (tells C) page) (min (length (page_after n (tells C) page)) n + length C) l ≡ page_after n (tells (C ++ (l ∷ []))) page
+page_push_behind n C page l =
+    let front = take n page in
+    let room = laid C (drop n page) in
+    let long = length-take n page in
+    let all : length (front ++ room) ≡ length page = page_long n C page in
+    let at = min (length (front ++ room)) n + length C in
+    let e : at - length front ≡ length C = omega arith in
+    set-append_right front room (length front) at l refl (omega arith) ∙ ap (λ k. front ++ set room k l) e ∙ ap (λ k. front ++ k) (laid_push C (drop n page) l)
+
 -- one more word of the clause
 pub page_push : (n : ℕ) (C page : List ℤ) (l : ℤ) → set (page_after n (tells C) page) (n + length C) l ≡ page_after n (tells (C ++ (l ∷ []))) page
 page_push n C page l = elim (cases_lt (length page) n) [
   | inl h ↦ ap (λ q. set q (n + length C) l) (page_short n C page (omega arith)) ∙ set_past page (n + length C) l (omega arith) ∙ sym (page_short n (C ++ (l ∷ [])) page (omega arith))
   | inr h ↦
-      let front = take n page in
-      let room = laid C (drop n page) in
-      let long : length front ≡ n = length-take-le n page h in
-      let e : n + length C - length front ≡ length C = omega arith in
-      set-append_right front room (length front) (n + length C) l refl (omega arith) ∙ ap (λ k. front ++ set room k l) e ∙ ap (λ k. front ++ k) (laid_push C (drop n page) l)
+      let e : n ≡ min (length (page_after n (tells C) page)) n = omega (arith, page_long n C page) in
+      ap (λ k. set (page_after n (tells C) page) (k + length C) l) e ∙ page_push_behind n C page l
 ]
 
 -- a clause laid behind another

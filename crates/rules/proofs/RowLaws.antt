@@ -1,12 +1,15 @@
 -- Laws of rows of words.
-use Rattle.std.proofs.Common.{◌≡◌, ℕ, zero, suc, ◌+◌, ◌-◌, ◌<◌, ◌≤◌, Bool, true, false, not, List, [], ◌∷◌, ◌++◌, length, get_or, take, drop, replicate, ℤ, pos, negsuc, sym, refl, ap, ◌∙◌, subst, inl, inr, arith, min}
+use Rattle.std.proofs.Common.{◌≡◌, ℕ, zero, suc, ◌+◌, ◌-◌, ◌<◌, ◌≤◌, Bool, true, false, not, List, [], ◌∷◌, ◌++◌, length, get_or, take, drop, replicate, ℤ, pos, negsuc, sym, refl, ap, ◌∙◌, subst, inl, inr, arith, min, take_all, w32, SFits, to_z, of_z}
 use Rattle.std.specs.List.{list_all, IsFirstMatchOrLen}
-use Rattle.std.proofs.lemmas.List.{drop-drop, take-append-le, drop_at}
+use Rattle.std.proofs.lemmas.List.{append_assoc, length-drop, take-append-drop, take-append-le, take_more, drop_at, drop_more, drop-drop, get_or-drop}
+use Rattle.std.proofs.lemmas.Int.{to_z-of_z}
 use Rattle.std.proofs.lemmas.List.Elements.{All-drop, All-replicate, All-weaker}
 use Rattle.std.proofs.lemmas.List.Folds.{list_all-append}
 use Rattle.std.proofs.lemmas.List.Sums.{AllPass-from_list_all, list_all-from_AllPass}
-use Rattle.std.proofs.lemmas.Bool.{cases_Bool, both_ways, and_parts, and_from, eqb-true, not-true, cond-true, cond-false}
+use Rattle.std.proofs.lemmas.Bool.{cases_Bool, cases_lt, both_ways, and_parts, and_from, eqb-true, ne_eqb, not-true, not_from_false, cond-true, cond-false}
+use Rattle.rules.specs.Literals.{var, in_range}
 use Rattle.rules.specs.Rows.{is_zero, in_front, rows, ended, words_of, spelled}
+use Rattle.rules.proofs.Literals.{range_bounds}
 
 -- ROWS
 
@@ -18,6 +21,14 @@ pub zero_word : (w : ℤ) → is_zero w ≡ true → w ≡ pos 0
 zero_word (pos k) h = ap pos (eqb-true k 0 h)
 zero_word (negsuc k) h = let e = eqb-true (suc k) 0 h in absurd (omega arith)
 
+-- a word whose bits are 0 is 0
+pub zero_bits : (w : ℤ) → SFits w32 w → of_z w32 w ≡ 0 → is_zero w ≡ true
+zero_bits w f e = subst (λ z. is_zero z ≡ true) (ap (to_z w32) (sym e) ∙ to_z-of_z w32 w f) refl
+
+-- a word with other bits is not 0
+pub other_bits : (w : ℤ) → (of_z w32 w ≡ 0 → ⊥) → is_zero w ≡ false
+other_bits w h = elim (cases_Bool (is_zero w)) [ inl z ↦ absurd (h (ap (of_z w32) (zero_word w z))) | inr z ↦ z ]
+
 pub pass_append : {A : Type 0} (p : A → Bool) (xs ys : List A) → list_all p xs ≡ true → list_all p ys ≡ true → list_all p (xs ++ ys) ≡ true
 pass_append p xs ys h k = list_all-append p xs ys ∙ and_from (list_all p xs) (list_all p ys) h k
 
@@ -26,6 +37,13 @@ pass_weaker p q follows xs h = list_all-from_AllPass q xs (All-weaker (λ x. p x
 
 pub pass_push : {A : Type 0} (p : A → Bool) (xs : List A) (x : A) → list_all p xs ≡ true → p x ≡ true → list_all p (xs ++ (x ∷ [])) ≡ true
 pass_push p xs x h e = pass_append p xs (x ∷ []) h (and_from (p x) true e refl)
+
+ranged_word : (n : ℕ) (l : ℤ) → in_range n l ≡ true → not (is_zero l) ≡ true
+ranged_word n l h = let b = range_bounds n l h in not_from_false (is_zero l) (ne_eqb (var l) 0 (λ e. omega arith))
+
+-- literals in range are not 0
+pub ranged_words : (n : ℕ) (ls : List ℤ) → list_all (in_range n) ls ≡ true → none_zero ls ≡ true
+ranged_words n = pass_weaker (in_range n) (λ l. not (is_zero l)) (ranged_word n)
 
 -- words that are not 0, and then a 0, are a row
 pub rows_row : (row : List ℤ) (w : ℤ) (ws : List ℤ) → none_zero row ≡ true → is_zero w ≡ true → rows (row ++ (w ∷ ws)) ≡ row ∷ rows ws
@@ -117,15 +135,49 @@ zeros_after a b ws h z =
 
 -- READING ROWS
 
-ended_tail : (w : ℤ) (ws : List ℤ) → ended (w ∷ ws) ≡ true → ended ws ≡ true
-ended_tail w [] h = refl
-ended_tail w (v ∷ ws) h = h
+ended_suffix : (row ws : List ℤ) → ended (row ++ ws) ≡ true → ended ws ≡ true
+ended_suffix [] ws h = h
+ended_suffix (v ∷ []) [] h = refl
+ended_suffix (v ∷ []) (w ∷ ws) h = h
+ended_suffix (v ∷ u ∷ row) ws h = ended_suffix (u ∷ row) ws h
+
+not_ended : (w : ℤ) (ws : List ℤ) → none_zero (w ∷ ws) ≡ true → ended (w ∷ ws) ≡ true → ⊥
+not_ended w [] n e = both_ways (is_zero w) (not-true (is_zero w) (and_parts (not (is_zero w)) true n).0) e
+not_ended w (v ∷ ws) n e = not_ended v ws (and_parts (not (is_zero w)) (none_zero (v ∷ ws)) n).1 e
+
+-- words that have ended are not all other than 0
+pub before_end : (k : ℕ) (ws : List ℤ) → 0 < length ws → ended ws ≡ true → none_zero (take k ws) ≡ true → k < length ws
+before_end k [] h e n = absurd (omega arith)
+before_end k (w ∷ ws) h e n = elim (cases_lt k (length (w ∷ ws)))
+    [ inl l ↦ l | inr l ↦ absurd (not_ended w ws (subst (λ r. none_zero r ≡ true) (take_all k (w ∷ ws) l) n) e) ]
+
+-- the words of a part from s to p, and one more
+pub part_push : (ws : List ℤ) (s p : ℕ) → s ≤ p → p < length ws
+    → take (p + 1 - s) (drop s ws) ≡ take (p - s) (drop s ws) ++ (get_or ws p (pos 0) ∷ [])
+part_push ws s p a b =
+    let e : p + 1 - s ≡ p - s + 1 = omega arith in
+    let i : s + (p - s) ≡ p = omega arith in
+    ap (λ k. take k (drop s ws)) e ∙ take_more (drop s ws) (p - s) (pos 0) (omega (arith, length-drop s ws))
+    ∙ ap (λ w. take (p - s) (drop s ws) ++ (w ∷ [])) (get_or-drop s ws (p - s) (pos 0) ∙ ap (λ k. get_or ws k (pos 0)) i)
+
+-- where a part of words other than 0 is followed by a 0, it is the first row, and what follows has ended too
+pub part_row : (ws : List ℤ) (s p : ℕ) → s ≤ p → p < length ws → none_zero (take (p - s) (drop s ws)) ≡ true → is_zero (get_or ws p (pos 0)) ≡ true
+    → (rows (drop s ws) ≡ take (p - s) (drop s ws) ∷ rows (drop (p + 1) ws)) × (ended (drop s ws) ≡ true → ended (drop (p + 1) ws) ≡ true)
+part_row ws s p a b n z =
+    let row = take (p - s) (drop s ws) in
+    let w = get_or ws p (pos 0) in
+    let i : s + (p - s) ≡ p = omega arith in
+    let split : drop s ws ≡ row ++ (w ∷ drop (p + 1) ws) =
+    sym (take-append-drop (p - s) (drop s ws)) ∙ ap (λ k. row ++ k) (drop-drop (p - s) s ws ∙ ap (λ k. drop k ws) i ∙ drop_more ws p (pos 0) b) in (
+      ap rows split ∙ rows_row row w (drop (p + 1) ws) n z,
+      λ e. ended_suffix (row ++ (w ∷ [])) (drop (p + 1) ws) (subst (λ k. ended k ≡ true) (split ∙ sym (append_assoc row (w ∷ []) (drop (p + 1) ws))) e),
+    )
 
 -- where i is the place of the first 0, the words before it are the first row
 row_before : (ws : List ℤ) (i : ℕ) → ((k : ℕ) → k < i → is_zero (get_or ws k (pos 0)) ≡ false) → (i < length ws → is_zero (get_or ws i (pos 0)) ≡ true) → 0 < length ws → ended ws ≡ true
     → (i < length ws) × (rows ws ≡ take i ws ∷ rows (drop (suc i) ws)) × (ended (drop (suc i) ws) ≡ true)
 row_before [] i f z h e = absurd (omega arith)
-row_before (w ∷ ws) zero f z h e = (h, cond-true (is_zero w) ([] ∷ rows ws) (in_front w (rows ws)) (z h), ended_tail w ws e)
+row_before (w ∷ ws) zero f z h e = (h, cond-true (is_zero w) ([] ∷ rows ws) (in_front w (rows ws)) (z h), ended_suffix (w ∷ []) ws e)
 row_before (w ∷ []) (suc i) f z h e = absurd (both_ways (is_zero w) (f 0 (omega arith)) e)
 row_before (w ∷ v ∷ ws) (suc i) f z h e =
     let r = row_before (v ∷ ws) i (λ k l. f (suc k) (omega arith)) (λ l. z (omega arith)) (omega arith) e in (

@@ -1,14 +1,34 @@
 -- Laws of values and of statuses, literal by literal.
-use Rattle.std.proofs.Common.{◌≡◌, ℕ, ◌+◌, ◌<◌, Bool, true, false, cond, not, List, [], ◌∷◌, ◌++◌, take, drop, length, get_or, ℤ, pos, neg_ℤ, sym, refl, ap, ◌∙◌, append_assoc, take-append-drop}
+use Rattle.std.proofs.Common.{◌≡◌, ℕ, ◌+◌, ◌-◌, ◌<◌, Bool, true, false, cond, not, leb, ◌⊎◌, List, [], ◌∷◌, ◌++◌, take, drop, length, get_or, ℤ, pos, negsuc, neg_ℤ, sym, refl, ap, ◌∙◌, subst, inl, inr, arith, append_assoc, take-append-drop}
 use Rattle.std.proofs.lemmas.List.Elements.{filter-append}
-use Rattle.std.proofs.lemmas.List.{append-nil, take_more}
-use Rattle.std.proofs.lemmas.Bool.{both_ways}
+use Rattle.std.proofs.lemmas.List.{append-nil, take_more, get_or_past}
+use Rattle.std.proofs.lemmas.Bool.{and_left, and_right, cond-false, lt-leb, ne_eqb, both_ways}
+use Rattle.rules.specs.Literals.{var, same}
 use Rattle.rules.specs.Clauses.{Status.falsified, Status.unit, Status.other, loose, by_loose, status}
+use Rattle.rules.specs.Sources.{true_in}
 use Rattle.rules.specs.Values.{value_in, kind_of, with_value}
 use Rattle.rules.specs.declared.literal.Value.{Value}
 use Rattle.rules.specs.declared.literal.Value.TheVariants.{True, False, Unassigned}
 use Rattle.rules.specs.declared.status.ClauseStatus.{ClauseStatus}
 use Rattle.rules.specs.declared.status.ClauseStatus.TheVariants.{Other}
+use Rattle.rules.proofs.Literals.{var_neg}
+
+zero_apart : (l : ℤ) → 0 < var l → same (pos 0) l ≡ false
+zero_apart (pos v) h = ne_eqb 0 v (λ e. omega arith)
+zero_apart (negsuc v) h = refl
+
+-- 0 and a literal past the row's end are not true
+absent : (row : List ℤ) (l : ℤ) → (var l ≡ 0) ⊎ (length row < var l) → true_in row l ≡ false
+absent row l (inl e) = and_left (leb 1 (var l)) (same (get_or row (var l - 1) (pos 0)) l) (lt-leb 1 (var l) (omega arith))
+absent row l (inr h) = and_right (leb 1 (var l)) (same (get_or row (var l - 1) (pos 0)) l)
+    (subst (λ w. same w l ≡ false) (sym (get_or_past row (var l - 1) (pos 0) (omega arith))) (zero_apart l (omega arith)))
+
+-- so they are unassigned
+pub absent_value : (row : List ℤ) (l : ℤ) → (var l ≡ 0) ⊎ (length row < var l) → Unassigned ≡ value_in (true_in row) l
+absent_value row l h =
+    let f = true_in row in
+    let neg : (var (neg_ℤ l) ≡ 0) ⊎ (length row < var (neg_ℤ l)) = rw (var_neg l) h in
+    sym (cond-false (f l) True (cond (f (neg_ℤ l)) False Unassigned) (absent row l h) ∙ cond-false (f (neg_ℤ l)) False Unassigned (absent row (neg_ℤ l) neg))
 
 -- the literals that are not false, with one more
 loose_push : (f : ℤ → Bool) (ls : List ℤ) (l : ℤ) → loose f (ls ++ (l ∷ [])) ≡ loose f ls ++ cond (f (neg_ℤ l)) [] (l ∷ [])
