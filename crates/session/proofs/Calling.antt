@@ -1,7 +1,7 @@
 -- The calls of a session one by one, each by its rule.
 use Rattle.std.proofs.Common.{◌≡◌, ℕ, ◌+◌, ◌-◌, ◌*◌, ◌<◌, ◌≤◌, Bool, true, false, cond, ◌||◌, leb, List, [], ◌∷◌, ◌++◌, length, set, ℤ, pos, Some, None, Ok, Err, filter, Option, sym, refl, ap, ◌∙◌, subst, zero-add, arith}
 use Rattle.std.specs.List.{list_all}
-use Rattle.std.proofs.lemmas.List.FromFn.{length-map-range_with_len, get_or-map-range_with_len, map-range_with_len_more}
+use Rattle.std.proofs.lemmas.List.FromFn.{length-map-range_with_len, get_or-map-range_with_len}
 use Rattle.std.proofs.lemmas.Bool.{cond-true, and_left, and_right, lt-ltb, le-ltb, lt-leb}
 use Rattle.rules.specs.Literals.{in_range, has}
 use Rattle.rules.specs.Sources.{makes, assignment}
@@ -12,7 +12,7 @@ use Rattle.rules.proofs.RowLaws.{pass_push}
 use Rattle.theory.specs.Trail.{Trail, on, assumed_literals}
 use Rattle.theory.specs.Search.{Verdict.model, Verdict.refuted}
 use Rattle.theory.specs.Calls.{Call.assume, Call.value, Call.named, Reply.done, Reply.said, Reply.refused, State.idle, Next.assumes, Next.assumes_outside, Next.assumes_full, Next.values, Next.values_without, Next.values_outside, Next.names, Next.names_without, Next.names_outside}
-use Rattle.session.specs.Words.{word_at}
+use Rattle.session.specs.Words.{word_at, Wrote}
 use Rattle.session.specs.Decode.{assumptions_of, trail_of, marked}
 use Rattle.session.specs.Reports.{verdict_of}
 use Rattle.session.specs.Searches.{with_failed, failed_is, names_by, search_in}
@@ -21,7 +21,8 @@ use Rattle.session.specs.declared.report.Verdict.{Verdict}
 use Rattle.session.specs.declared.report.Verdict.TheVariants.{Open, Paused, Model, Refuted}
 use Rattle.session.specs.declared.report.Refusal.TheVariants.{NoVariable, Full, NoModel, NotRefuted}
 use Rattle.session.specs.declared.states.Settled.{Settled}
-use Rattle.session.proofs.Words.{counted_same, wrote, words_all}
+use Rattle.session.proofs.Words.{wrote, words_all}
+use Rattle.session.proofs.Implying.{words_push}
 use Rattle.session.proofs.Promising.{promised}
 
 -- ASSUMPTIONS
@@ -30,11 +31,7 @@ pub standing_long : (k : ℕ) (ws : List ℤ) → length (assumptions_of k ws) �
 standing_long k ws = length-map-range_with_len (word_at ws) 0 k
 
 pub joined : (k : ℕ) (ws : List ℤ) (l : ℤ) → k < length ws → assumptions_of (k + 1) (set ws k l) ≡ assumptions_of k ws ++ (l ∷ [])
-joined k ws l h =
-    let w = wrote ws k l h in
-    map-range_with_len_more (word_at (set ws k l)) 0 k k (zero-add k)
-    ∙ ap (λ x. assumptions_of k (set ws k l) ++ (x ∷ [])) w.at
-    ∙ ap (λ xs. xs ++ (l ∷ [])) (counted_same (word_at (set ws k l)) (word_at ws) 0 0 k (λ i b. w.rest (0 + i) (omega arith)))
+joined k ws l h = words_push ws (set ws k l) 0 k l (subst (λ i. Wrote i l ws (set ws k l)) (sym (zero-add k)) (wrote ws k l h))
 
 pub joined_ranged : (n k : ℕ) (ws : List ℤ) (l : ℤ) → k < length ws → list_all (in_range n) (assumptions_of k ws) ≡ true → in_range n l ≡ true → list_all (in_range n) (assumptions_of (k + 1) (set ws k l)) ≡ true
 joined_ranged n k ws l h a r = subst (λ xs. list_all (in_range n) xs ≡ true) (sym (joined k ws l h)) (pass_push (in_range n) (assumptions_of k ws) l a r)

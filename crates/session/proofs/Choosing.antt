@@ -7,19 +7,31 @@ use Rattle.weights.specs.Choosing.{by_weight, offered}
 use Rattle.weights.specs.Weighing.{total_weight}
 use Rattle.weights.specs.declared.chooser.Candidate.{Candidate}
 use Rattle.theory.specs.Look.{Position}
-use Rattle.theory.specs.Weighing.{Member, Total, Chain, Fair}
+use Rattle.theory.specs.Weighing.{Member, Decided, Total, Chain, Fair}
 use Rattle.theory.specs.Trail.{Entry, Entry.assumed, Entry.decided, Entry.implied, Trail, literal, on, decided_literals}
-use Rattle.theory.specs.Chunks.{in_chunk, touches, chunk}
+use Rattle.theory.specs.Chunks.{standing, in_chunk, touches, chunk}
 use Rattle.theory.proofs.Choice.{lighter, choice, Chooses, choice_chooses}
 use Rattle.session.specs.Words.{word_at, clause_at, index_of, trail_at, row_at, Outside}
 use Rattle.session.specs.Decode.{entry_of, entry_at, trail_of, slot_of, slots_of, Marked, Coherent, clause_of}
 use Rattle.session.proofs.Words.{words_same}
 use Rattle.session.proofs.Decode.{literal_of, entry_same, outside_trail}
-use Rattle.session.specs.Candidates.{by_total, is_touched, decision_at}
+use Rattle.session.specs.Candidates.{by_total, is_touched, decision_at, PlaceWithin}
 
 -- the position that the words stand for, under these assumptions
 abbrev position_with : List ℤ → ℕ → ℕ → ℕ → List ℤ → Position
 position_with assumptions n len filled ws = record { assumptions = assumptions; trail = trail_of n len ws; slots = slots_of n filled ws }
+
+-- an entry that is decided is touched where the clause touches the chunk of its literal
+pub touched_decided : (t : Trail) (C : List ℤ) (e : Entry) → Decided ≡ standing e → is_touched t C e ≡ touches t (literal e) C
+touched_decided t C (assumed l) h = let z : ◌≡◌ {A = ℕ} 0 1 = cc in absurd (omega arith)
+touched_decided t C (decided l) h = refl
+touched_decided t C (implied l others) h = let z : ◌≡◌ {A = ℕ} 0 1 = cc in absurd (omega arith)
+
+-- an entry that is not decided is not touched
+pub touched_not : (t : Trail) (C : List ℤ) (e : Entry) → (standing e ≡ Decided → ⊥) → is_touched t C e ≡ false
+touched_not t C (assumed l) h = refl
+touched_not t C (decided l) h = absurd (h refl)
+touched_not t C (implied l others) h = refl
 
 -- the touched decisions of a part of the trail
 abbrev pub decisions_in : Trail → List ℤ → Trail → List ℤ
@@ -96,6 +108,11 @@ module _ {W : Type 0} (at_most : W → W → Bool) (zero : W) (plus : W → W �
   abbrev pub KeptRight : Option (Candidate W) → Type 0
   KeptRight None = Unit {0}
   KeptRight (Some c) = Right c
+
+  -- the place of a candidate that is kept is one of the trail's
+  pub kept_within : (kept : Option (Candidate W)) → KeptRight kept → PlaceWithin len (kept_place kept)
+  kept_within None h = tt
+  kept_within (Some c) h = h.0
 
   pub offered_right : (kept : Option (Candidate W)) (c : Candidate W) → KeptRight kept → Right c → KeptRight (offered (by_weight at_most) kept c)
   offered_right None c h k = k

@@ -53,6 +53,10 @@ pub record Collected (x count : ℕ) (S : ℤ → Bool) (was room : List ℤ) : 
   pub most : count ≤ x
   pub front : room ≡ learned x S ++ drop count was
 
+-- before any variable is read, nothing is written
+pub collected_none : (S : ℤ → Bool) (ws : List ℤ) → Collected 0 0 S ws ws
+collected_none S ws = record { many = refl; most = omega arith; front = refl }
+
 module _ (n L len x count : ℕ) (B : ℕ → Bool) (ws was room : List ℤ) (st : Coherent n L len ws) (h : x < n) (u : Collected x count (set_of (trail_of n len ws) B) was room) where
   next : learned (x + 1) (set_of (trail_of n len ws) B) ≡ learned x (set_of (trail_of n len ws) B)
       ++ cond (B x && not (eqb (nat_abs (word_at ws (value_at n x))) 0)) (neg_ℤ (word_at ws (value_at n x)) ∷ []) []

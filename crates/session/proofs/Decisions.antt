@@ -72,6 +72,11 @@ word_free n t (pos zero) r h = let q : ⊥ = omega arith in absurd q
 word_free n t (pos (suc a)) r h = rw r (open_is t a)
 word_free n t (negsuc a) r h = rw r (open_is t a ∙ and_comm (not (on t (pos (suc a)))) (not (on t (negsuc a))))
 
+-- where no variable of 1 to n is free, every variable has a value
+pub all_assigned : (n : ℕ) (t : Trail) → ((i : ℕ) → i < n + 1 → free n t (pos i) ≡ false) → Decides n t [] None
+all_assigned n t h = complete (All-nil (λ l. free n t l ≡ false))
+    (λ v. elim (cases_lt v (n + 1)) [ inl z ↦ h v z | inr z ↦ free_outside n t v (λ a b. omega arith) ])
+
 module _ (n L len : ℕ) (ws : List ℤ) (st : Coherent n L len ws) where
   pub unvalued_free : (l : ℤ) → in_range n l ≡ true → unvalued n ws l ≡ free n (trail_of n len ws) l
   unvalued_free l r = let b = index_range n l r in ap (λ v. eqb (nat_abs v) 0) (st.values (index_of l) b.1) ∙ word_free n (trail_of n len ws) l r b.0
@@ -88,8 +93,7 @@ module _ (n L len : ℕ) (ws : List ℤ) (st : Coherent n L len ws) where
   lowest_open x h o f = lowest (x + 1) (All-nil (λ l. free n (trail_of n len ws) l ≡ false)) (sym (open_free x h) ∙ o) (unfree x (omega arith) f)
 
   pub none_open : ((x : ℕ) → x < n → open_index n ws x ≡ false) → Decides n (trail_of n len ws) [] None
-  none_open f = complete (All-nil (λ l. free n (trail_of n len ws) l ≡ false))
-      (λ v. elim (cases_lt v (n + 1)) [ inl z ↦ unfree n (omega arith) f v z | inr z ↦ free_outside n (trail_of n len ws) v (λ a b. omega arith) ])
+  none_open f = all_assigned n (trail_of n len ws) (unfree n (omega arith) f)
 
 -- where the list has none, it is as without a list
 pub none_preferred : (n : ℕ) (t : Trail) (preferences : List ℤ) → NonePass (free n t) preferences → (o : Option ℤ) → Decides n t [] o → Decides n t preferences o

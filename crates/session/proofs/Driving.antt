@@ -7,7 +7,7 @@ use Rattle.theory.specs.Conflict.{others_of, repaired}
 use Rattle.theory.specs.Look.{Position}
 use Rattle.theory.specs.Search.{Guide, Verdict, Verdict.paused, Ends, Kind, Kind.assuming, Kind.deciding, Kind.implying, Kind.conflicting, placed, Step}
 use Rattle.theory.specs.Run.{Search, Report, no_steps, one_step, added, Goes, Goes.ends, Goes.pauses, Goes.steps}
-use Rattle.theory.proofs.RunLaws.{added_assoc}
+use Rattle.theory.proofs.RunLaws.{none_added, added_assoc}
 use Rattle.theory.proofs.Analysis.{analyse_analysed, one_touching}
 use Rattle.theory.proofs.Uniqueness.{end_or_step}
 use Rattle.theory.proofs.Compute.{left_over}
@@ -22,6 +22,12 @@ use Rattle.session.specs.declared.plan.Step.TheVariants.{Assume, Decide, Imply, 
 -- What is known after the steps of a report, which led from p₀ to p: any run on from p is one from p₀, with these steps in front.
 abbrev pub Onward : ℕ → ℕ → Guide → ℕ → Position → ℕ → Position → Report → Type 0
 Onward n L g limit p₀ left p a = (r : Report) (q : Search) → Goes n L g left p r q → Goes n L g limit p₀ (added a r) q
+
+-- after no steps, a run on from there is the whole run
+pub onward_start : (n L : ℕ) (g : Guide) (limit : ℕ) (p : Position) (left : ℕ) → left ≡ limit → (a : Report) (v : Verdict) → a ≡ no_steps v
+    → Onward n L g limit p left p a
+onward_start n L g limit p left e a v h r q go =
+    subst (λ x. Goes n L g limit p x q) (sym (none_added v r) ∙ ap (λ b. added b r) (sym h)) (subst (λ k. Goes n L g k p r q) e go)
 
 module _ (n L : ℕ) (g : Guide) (limit left : ℕ) (p₀ p : Position) (a : Report) (on : Onward n L g limit p₀ left p a) where
   pub onward_step : (k : Kind) (undone : ℕ) (p' : Position) → Step n L g p k undone p' → 0 < left → (left' : ℕ) → suc left' ≡ left → (b : Report) → b ≡ added a (one_step k undone) → Onward n L g limit p₀ left' p' b

@@ -57,6 +57,10 @@ pub refuted_memory : (m now : Memory) → now.layout ≡ m.layout → now.extent
 refuted_memory m now l x o failed h ls e =
     ap (λ y. search_at y now.extent Refuted failed now.words.now) l ∙ ap (λ z. search_at m.layout z Refuted failed now.words.now) x ∙ refuted_search m.layout m.extent m.words.now now.words.now m.sound o failed h ls e
 
+-- where there is an assumption there is a variable
+pub some_variable : (layout : Layout) (extent : Extent) (was : List ℤ) → SoundAt layout extent was → (i : ℕ) → i < extent.assumptions → 1 ≤ layout.variables
+some_variable layout extent was so i within = let f = so.few in omega arith
+
 -- the assumption found false was taken in hand
 module _ (m mid : Memory) (i : ℕ) (within : i < m.extent.assumptions) (f : Framed (4 * m.layout.variables) m.layout.variables m mid) (c : clause_in mid 1 ≡ word_at m.words.now i ∷ []) where
   same_trail_in : trail_in mid ≡ trail_in m

@@ -1,25 +1,35 @@
 -- A reason is copied from the clause in hand, and its literal placed.
 use Rattle.std.proofs.Common.{◌≡◌, ℕ, ◌+◌, ◌-◌, ◌*◌, ◌<◌, ◌≤◌, Bool, true, false, cond, not, List, [], ◌∷◌, ◌++◌, length, get_or, take, drop, set, suc, ℤ, w32, SFits, to_z, of_z, pos, nat_abs, filter, sym, refl, ap, ◌∙◌, subst, inl, inr, add-one, arith, length-set, length-take-le, get_or-take}
+use Rattle.std.proofs.Common.{◌≢◌, add_assoc}
 use Rattle.std.proofs.lemmas.List.{append-nil, append_assoc, length-append, take-append-drop}
 use Rattle.std.proofs.Math.Seq.{drop-cons, set-append_seam}
 use Rattle.std.proofs.lemmas.List.Elements.{filter-append, filter_more}
 use Rattle.std.proofs.lemmas.List.Filters.{length-filter_more, length-filter_both}
-use Rattle.std.proofs.lemmas.List.FromFn.{length-map-range_with_len, get_or-map-range_with_len}
-use Rattle.std.proofs.lemmas.Bool.{cases_eq}
+use Rattle.std.proofs.lemmas.List.FromFn.{length-map-range_with_len, get_or-map-range_with_len, map-range_with_len_more}
+use Rattle.std.proofs.lemmas.Bool.{cases_eq, both_ways}
 use Rattle.std.proofs.lemmas.Int.{to_z-of_z}
 use Rattle.rules.specs.Literals.{same}
 use Rattle.rules.proofs.Literals.{eq_same}
 use Rattle.theory.proofs.Trails.{free_parts}
 use Rattle.theory.specs.Trail.{Entry.implied, free, WellFormed, word, Placeable}
 use Rattle.theory.specs.Conflict.{others_of}
-use Rattle.session.proofs.Placing.{Touched, under, row_rest}
+use Rattle.session.proofs.Placing.{Touched, Laid, under, row_rest}
 use Rattle.session.proofs.Storing.{sound_kept, position_kept}
 use Rattle.session.specs.declared.memory.Memory.{Memory}
 use Rattle.session.specs.Memories.{trail_in, position_in, clause_in}
 use Rattle.session.specs.Words.{word_at, words_from, index_of, row_at, Wrote, Outside, value_at, clause_at}
-use Rattle.session.specs.Decode.{reason_count, Sound, trail_of, reason_of, position_of, assumptions_of, slots_of}
+use Rattle.session.specs.Decode.{reason_count, entry_of, Sound, trail_of, reason_of, position_of, assumptions_of, slots_of}
 use Rattle.session.proofs.Reading.{part_from, split_outside, split_words, split_long}
 use Rattle.session.proofs.Words.{words_same, index_range, reason_before, outside_wider, row_below, wrote}
+
+-- places whose words are not the same are different places
+pub places_apart : (ws : List ℤ) (a b : ℕ) → same (word_at ws a) (word_at ws b) ≡ false → a ≢ b
+places_apart ws a b f e = both_ways (same (word_at ws a) (word_at ws b)) f (eq_same (word_at ws a) (word_at ws b) (ap (word_at ws) e))
+
+-- one word more at the end
+pub words_push : (was now : List ℤ) (base k : ℕ) (v : ℤ) → Wrote (base + k) v was now → words_from now base (k + 1) ≡ words_from was base k ++ (v ∷ [])
+words_push was now base k v w = map-range_with_len_more (word_at now) base k (base + k) refl
+    ∙ ap (λ x. words_from now base k ++ (x ∷ [])) w.at ∙ ap (λ xs. xs ++ (v ∷ [])) (words_same was now base base k (λ i h. w.rest (base + i) (omega arith)))
 
 -- a literal that passes has a place among those of the whole list that do
 pub room_left : (p : ℤ → Bool) (ls : List ℤ) (i : ℕ) → i < length ls → p (get_or ls i (pos 0)) ≡ true → length (filter p (take i ls)) < length (filter p ls)
@@ -93,6 +103,32 @@ module _ (n L a len f count : ℕ) (l : ℤ) (others : List ℤ) (ws w0 now : Li
   pub reason_position : position_of n a len f now ≡ position_of n a len f ws
   reason_position = position_kept n L a len len f ws now so outside
       ∙ ap (λ t. record { assumptions = assumptions_of a ws; trail = t; slots = slots_of n f ws }) same_trail
+
+-- the others are copied to a literal's row and counted there, and the literal is laid on the trail as implied
+module _ (n len count : ℕ) (l : ℤ) (others : List ℤ) (ws w0 w1 now : List ℤ) (few : count + 1 ≤ n) (o : Outside (row_at n (index_of l) 2) (n - 1) ws w0)
+    (copied : words_from w0 (row_at n (index_of l) 2) count ≡ others) (a : Wrote (row_at n (index_of l) 1) (pos count) w0 w1)
+    (la : Laid n len l (pos 3) w1 now) where
+  -- only the trail's next word, and the value and the row of the variable may have changed
+  pub imply_touched : len < n → index_of l < n → Touched n len (index_of l) ws now
+  imply_touched h i = record {
+    below = λ j p q r. la.touched.below j p q r ∙ (a.rest j (omega arith) ∙ o.below j (omega arith));
+    above = λ j p. la.touched.above j p ∙ (a.rest j (omega arith) ∙ o.above j (omega arith));
+  }
+
+  -- the row tells how many others there are
+  pub imply_count : reason_count n now (index_of l) ≡ count
+  imply_count = ap nat_abs (la.reason 1 (omega arith) (omega arith) ∙ a.at)
+
+  -- the literal is implied by the others
+  pub imply_entry : entry_of n now l ≡ implied l others
+  imply_entry =
+      let r : words_from now (row_at n (index_of l) 2) count ≡ others =
+      words_same w0 now (row_at n (index_of l) 2) (row_at n (index_of l) 2) count
+      (λ k g.
+      subst (λ j. word_at now j ≡ word_at w0 j) (sym (add_assoc (6 * n + index_of l * (n + 1)) 2 k))
+      (la.reason (2 + k) (omega arith) (omega arith) ∙ a.rest (row_at n (index_of l) (2 + k)) (omega arith)))
+      ∙ copied in
+      rw (la.at_standing, imply_count) (ap (implied l) r)
 
 -- the clause in hand as a part of the words in front of a row
 pub clause_front : (m : Memory) (k a start : ℕ) (front : List ℤ) → a ≡ clause_at m.layout.variables 0 → clause_at m.layout.variables k ≤ start → start ≤ length m.words.now → front ≡ take start m.words.now

@@ -1,5 +1,7 @@
 -- The marks tell the chunk of a literal, from the oldest place of the trail on.
 use Rattle.std.proofs.Common.{◌≡◌, ℕ, suc, ◌+◌, ◌*◌, ◌<◌, Bool, true, false, eqb, ◌≢◌, List, ℤ, neg_ℤ, nat_abs, pos, sym, refl, ap, ◌∙◌, subst, inl, inr, add-one, arith}
+use Rattle.std.proofs.Common.{[]}
+use mathlib.Core.Bool.{false≢true}
 use Rattle.std.proofs.lemmas.Bool.{cond_both, or_parts, both_ways}
 use Rattle.rules.specs.Literals.{same}
 use Rattle.rules.proofs.Literals.{same_true, eq_same, all_has, has_all}
@@ -19,6 +21,10 @@ bit_is false = refl
 -- the marks as a test
 pub marked_is : (n : ℕ) (t : Trail) (test : ℤ → Bool) (ws : List ℤ) → Marked n t test ws → (l : ℤ) → on t l ≡ true → marked n ws l ≡ test l
 marked_is n t test ws m l o = rw (m.on_trail l o) (bit_is (test l))
+
+-- where no variable is marked, the marks are those of an empty trail
+pub marked_none : (n : ℕ) (test : ℤ → Bool) (ws : List ℤ) → ((x : ℕ) → x < n → word_at ws (mark_at n x) ≡ pos 0) → Marked n [] test ws
+marked_none n test ws h = record { on_trail = λ l e. absurd (false≢true e); off_trail = λ l g _ _. h (index_of l) (index_range n l g).1 }
 
 -- where the literal is not on the trail and no variable is marked, the marks tell its chunk, which is empty
 pub nothing_marked : (n : ℕ) (t : Trail) (d : ℤ) (ws : List ℤ) → WellFormed n t → on t d ≡ false → ((x : ℕ) → x < n → word_at ws (mark_at n x) ≡ pos 0) → Marked n t (in_chunk d t) ws

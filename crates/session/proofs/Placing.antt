@@ -1,5 +1,6 @@
 -- One entry more on the trail, however its words were written.
 use Rattle.std.proofs.Common.{◌≡◌, ℕ, zero, suc, ◌+◌, ◌<◌, ◌≤◌, true, false, cond, ◌||◌, eqb, ◌≢◌, List, ◌∷◌, length, ℤ, pos, negsuc, neg_ℤ, sym, refl, ap, ◌∙◌, subst, inl, inr, add-one, arith, add_assoc, ◌*◌, set, length-set}
+use Rattle.std.proofs.Common.{◌⊎◌, []}
 use Rattle.std.proofs.lemmas.Bool.{cond_both, eqb-true, eqb-false, eq-eqb, ne_eqb, cases_eq}
 use Rattle.rules.specs.Literals.{var, same}
 use Rattle.theory.specs.Trail.{Entry, Trail, literal, on, free, Placeable, WellFormed, word}
@@ -80,6 +81,11 @@ module _ (n L len : ℕ) (l : ℤ) (e : Entry) (ws now : List ℤ) (st : Coheren
           | inr z ↦ rw (row_rest n L len l ws now st fr to x 1 (omega arith) z) (st.counts x h)
         ];
       }
+
+-- a free literal may be placed as assumed and as decided
+pub known_placeable : (n : ℕ) (t : Trail) (l s : ℤ) → free n t l ≡ true → (s ≡ pos 1) ⊎ (s ≡ pos 2) → Placeable n t (as_entry s l [])
+known_placeable n t l s fr h =
+    elim h [ inl e ↦ rw e (record { unassigned = fr; grounded = tt }) | inr e ↦ rw e (record { unassigned = fr; grounded = tt }) ]
 
 -- a literal that is laid has the reason that its row held
 pub laid_entry : (n L len : ℕ) (l s : ℤ) (was now : List ℤ) → Coherent n L len was → index_of l < n → Laid n len l s was now → entry_of n now l ≡ as_entry s l (reason_of n was (index_of l))

@@ -1,5 +1,6 @@
 -- The repair of a conflict: what each of its parts asks, and where they lead.
 use Rattle.std.proofs.Common.{◌≡◌, ℕ, ◌+◌, ◌*◌, ◌<◌, ◌≤◌, Bool, true, not, List, [], ◌∷◌, length, ℤ, neg_ℤ, All, filter, sym, refl, ap, ◌∙◌, subst, arith, Some, pos}
+use Rattle.std.proofs.Common.{◌-◌}
 use Rattle.std.specs.List.{position}
 use Rattle.std.proofs.lemmas.List.Quantifiers.{position-Some}
 use Rattle.std.proofs.lemmas.List.FromFn.{length-map-range_with_len, get_or-map-range_with_len}
@@ -15,12 +16,14 @@ use Rattle.theory.specs.Conflict.{Touched, Analysed, literals_from, learned, oth
 use Rattle.theory.proofs.Trails.{AllFalse, on_top, on_below}
 use Rattle.theory.proofs.Analysis.{analysed_false, one_touching}
 use Rattle.theory.proofs.Repairing.{chunk_kept, learned_all, repaired_formed}
-use Rattle.session.specs.Words.{word_at, clause_at, Outside}
+use Rattle.session.specs.Words.{word_at, index_of, clause_at, row_at, size, Outside}
 use Rattle.session.specs.Decode.{literal_at, trail_of, clause_of, marked_index, marked, unmarked, Marked, Sound}
 use Rattle.session.specs.Repair.{Repairs}
-use Rattle.session.proofs.Words.{index_neg, words_same, has_word, words_all}
+use Rattle.session.proofs.Words.{slot_behind, index_range, index_neg, words_same, has_word, words_all, outside_both, outside_wider}
 use Rattle.session.proofs.Decode.{length_trail, false_ranged, outside_trail}
+use Rattle.session.proofs.Placing as placing
 use Rattle.session.proofs.Marking.{marked_is}
+use Rattle.session.proofs.Storing.{touched_outside}
 
 -- what is kept goes by what is said of the trail's literals
 kept_cong : (f g : ℤ → Bool) (t : Trail) → ((l : ℤ) → on t l ≡ true → f l ≡ g l) → filter (λ e. not (f (literal e))) t ≡ filter (λ e. not (g (literal e))) t
@@ -146,6 +149,25 @@ module _ (n L count len filled k j root at : ℕ) (S : ℤ → Bool) (w0 w1 : Li
     pub placeable : (t2 : Trail) → t2 ≡ unmarked n w1 (trail_of n len w1) → Placeable n t2 (implied (word_at w2 (clause_at n at)) (others_of (word_at w2 (clause_at n at)) (clause_of n j w2)))
     placeable t2 e = subst (λ s. Placeable n s (implied (word_at w2 (clause_at n at)) (others_of (word_at w2 (clause_at n at)) (clause_of n j w2)))) (sym (e ∙ undone))
         (subst (Placeable n (without_chunk t root_literal)) (sym entry_is) formed_next.0)
+
+    around : Outside (2 * n) (4 * n + n * (n + 1)) w0 w2
+    around = outside_both (2 * n) (4 * n + n * (n + 1)) w0 w1 w2
+        (outside_wider (4 * n) (2 * n) (2 * n) (4 * n + n * (n + 1)) w0 w1 (omega arith) (omega arith) h.frame)
+        (outside_wider (2 * n) (2 * n) (2 * n) (4 * n + n * (n + 1)) w1 w2 (omega arith) (omega arith) o2)
+
+    -- after the literal is placed and the clause learned
+    module _ (rest : ℕ) (w3 w4 : List ℤ) (room : rest < n) (to : placing.Touched n rest (index_of (word_at w2 (clause_at n at))) w2 w3)
+        (be : (i : ℕ) → i < row_at n n 0 → word_at w4 i ≡ word_at w3 i) where
+      -- no word before the trail has changed, and none behind the slots
+      pub repair_frame : ((i : ℕ) → size n L ≤ i → word_at w4 i ≡ word_at w3 i) → Outside (2 * n) (size n L - 2 * n) w0 w4
+      repair_frame bh =
+          let a = subst (λ v. index_of v < n) (sym same_literal) (index_range n u (left_ranged n L count len filled k j root S w0 w1 h at g.within)).1 in
+          let q = touched_outside n rest (index_of (word_at w2 (clause_at n at))) w2 w3 room a to in
+          let m = slot_behind n L 0 in
+          record {
+            below = λ i l. be i (omega arith) ∙ (q.below i l ∙ around.below i l);
+            above = λ i l. bh i (omega arith) ∙ (q.above i (omega arith) ∙ around.above i (omega arith));
+          }
 
   -- how many are undone, where so many are left
   pub undone_count : (many rest : ℕ) → many + rest ≡ len → length (unmarked n w1 (trail_of n len w1)) ≡ rest → many ≡ length (chunk t root_literal)

@@ -3,6 +3,7 @@ use Rattle.std.proofs.Common.{◌≡◌, ℕ, zero, suc, ◌+◌, ◌*◌, ◌<�
 use mathlib.Core.Path.{fun_ext}
 use mathlib.Core.Bool.{and_comm, false≢true}
 use Rattle.std.proofs.lemmas.Bool.{cond-true, cond_both, cases_Bool, cases_eq, eqb-true, eq-eqb, ne_eqb, and_parts, and_from, and_right, or_cases, or_left, or_right}
+use Rattle.std.proofs.lemmas.Bool.{and_cases, both_ways}
 use Rattle.std.specs.Cmp.{both_ways as each_way}
 use Rattle.std.proofs.Math.Bool.{or-false}
 use Rattle.rules.specs.Literals.{same, has}
@@ -170,6 +171,35 @@ mark_more n y was now w x = elim (cases_eq x y) [
   | inl e ↦ ap (marked_index n now) e ∙ ap (λ v. eqb (nat_abs v) 1) w.at ∙ sym (or_right (marked_index n was x) (eqb x y) (eq-eqb x y e))
   | inr d ↦ ap (λ v. eqb (nat_abs v) 1) (w.rest (mark_at n x) (λ z. d (omega arith))) ∙ sym (rw (ne_eqb x y d) (or-false (marked_index n was x)))
 ]
+
+-- the reason of the literal at a place, by the row of its variable
+module _ (n : ℕ) (ws : List ℤ) (K : ℕ → Bool) (p x : ℕ) (i : x ≡ index_of (word_at ws (trail_at n p))) where
+  -- where the variable is marked and implied, those of its reason are marked too
+  pub reason_marked : (K x && eqb (nat_abs (word_at ws (row_at n x 0))) 3) ≡ true
+      → (y : ℕ) → with_reason K (entry_at n ws p) y ≡ (K y || names_index (reason_of n ws x) y)
+  reason_marked h y =
+      by (word_at ws (row_at n (index_of l) 0)) (subst (λ z. (K z && eqb (nat_abs (word_at ws (row_at n z 0))) 3) ≡ true) i h)
+      ∙ ap (λ z. K y || names_index (reason_of n ws z) y) (sym i)
+    where
+      l : ℤ
+      l = word_at ws (trail_at n p)
+
+      by : (s : ℤ) → (K (index_of l) && eqb (nat_abs s) 3) ≡ true
+          → with_reason K (as_entry s l (reason_of n ws (index_of l))) y ≡ (K y || names_index (reason_of n ws (index_of l)) y)
+      by s g = let q = and_parts (K (index_of l)) (eqb (nat_abs s) 3) g in rw (q.1, q.0)
+
+  -- where it is not both, the marks stay as they are
+  pub reason_unmarked : (K x && eqb (nat_abs (word_at ws (row_at n x 0))) 3) ≡ false → (y : ℕ) → with_reason K (entry_at n ws p) y ≡ K y
+  reason_unmarked h y = by (word_at ws (row_at n (index_of l) 0)) (reason_of n ws (index_of l))
+      (subst (λ z. (K z && eqb (nat_abs (word_at ws (row_at n z 0))) 3) ≡ false) i h)
+    where
+      l : ℤ
+      l = word_at ws (trail_at n p)
+
+      by : (s : ℤ) (others : List ℤ) → (K (index_of l) && eqb (nat_abs s) 3) ≡ false → with_reason K (as_entry s l others) y ≡ K y
+      by s others g = cond_both (eqb (nat_abs s) 3) (implied l others) (cond (eqb (nat_abs s) 1) (assumed l) (decided l)) (λ e. with_reason K e y ≡ K y)
+          (λ t. elim (and_cases (K (index_of l)) (eqb (nat_abs s) 3) g) [ inl k ↦ rw k (or-false (K y)) | inr k ↦ absurd (both_ways (eqb (nat_abs s) 3) k t) ])
+          (λ _. cond_both (eqb (nat_abs s) 1) (assumed l) (decided l) (λ e. with_reason K e y ≡ K y) (λ _. refl) (λ _. refl))
 
 -- the oldest entries are a part of the trail
 part_under : {T : Trail} (e : Entry) {t : Trail} → Part T t → Part (e ∷ T) t

@@ -1,14 +1,28 @@
 -- A run: when it is refused, and what follows where it is granted.
-use Rattle.std.proofs.Common.{◌≡◌, ℕ, ◌<◌, ◌≤◌, true, false, sym, refl, subst}
+use Rattle.std.proofs.Common.{◌≡◌, ℕ, ◌<◌, ◌≤◌, true, false, Some, None, sym, refl, subst}
+use Rattle.std.proofs.lemmas.Bool.{eq-eqb, ne_eqb, lt-ltb, le-ltb}
 use Rattle.rules.specs.Sources.{Lawful}
 use Rattle.theory.specs.Search.{Guide, ended}
 use Rattle.theory.specs.Run.{Search as Searched, Report as RunReport, no_steps, Goes, Run, Run.again, Run.goes}
 use Rattle.theory.specs.Calls.{Call.run, Reply.reported, Reply.refused, State.searching, Next.runs, Next.runs_other, Next.runs_short}
 use Rattle.session.specs.Reports.{verdict_of, has_ended}
-use Rattle.session.specs.Sessions.{Promised}
+use Rattle.session.specs.Sessions.{Promised, run_refusal}
 use Rattle.session.specs.declared.report.Verdict.{Verdict}
 use Rattle.session.specs.declared.report.Verdict.TheVariants.{Open, Paused, Model, Refuted}
+use Rattle.session.specs.declared.report.Refusal.TheVariants.{OtherCount, ShortScratch}
 use Rattle.session.proofs.Promising.{promised}
+
+-- a source of another count is refused
+pub other_count : (n count bytes : ℕ) → (count ≡ n → ⊥) → run_refusal n count bytes ≡ Some OtherCount
+other_count n count bytes h = rw (ne_eqb count n h)
+
+-- where the count fits, a scratch of fewer bytes is refused
+pub short_scratch : (n count bytes : ℕ) → count ≡ n → bytes < n → run_refusal n count bytes ≡ Some ShortScratch
+short_scratch n count bytes e h = rw (eq-eqb count n e, lt-ltb bytes n h)
+
+-- where both fit, nothing is refused
+pub no_refusal : (n count bytes : ℕ) → count ≡ n → n ≤ bytes → run_refusal n count bytes ≡ None
+no_refusal n count bytes e h = rw (eq-eqb count n e, le-ltb bytes n h)
 
 ended_is : (v : Verdict) → ended (verdict_of v) ≡ has_ended v
 ended_is Open = refl

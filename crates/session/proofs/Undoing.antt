@@ -7,7 +7,7 @@ use Rattle.rules.proofs.Literals.{same_true}
 use Rattle.theory.specs.Trail.{Trail, literal, on, WellFormed, word}
 use Rattle.session.specs.Words.{word_at, index_of, trail_at, value_at, row_at, Wrote, Outside}
 use Rattle.session.specs.Decode.{entry_of, trail_of, marked_index, marked, unmarked, assumptions_of, slots_of, position_of, Coherent, Sound}
-use Rattle.session.proofs.Words.{outside_more, outside_wider}
+use Rattle.session.proofs.Words.{outside_none, outside_more, outside_wider}
 use Rattle.session.proofs.Storing.{sound_kept, position_kept}
 use Rattle.session.proofs.Decode.{literal_of, entry_same, trail_same, place_at, at_on}
 
@@ -48,6 +48,17 @@ pub record Undone (n p q : ℕ) (was now : List ℤ) : Type 0 where
   pub values : (x : ℕ) → x < n → marked_index n was x ≡ false → word_at now (value_at n x) ≡ word_at was (value_at n x)
   pub gone : (x : ℕ) → x < n → marked_index n was x ≡ true
       → (word_at now (value_at n x) ≡ pos 0) ⊎ ((word_at now (value_at n x) ≡ word_at was (value_at n x)) × ((i : ℕ) → i < p → index_of (word_at was (trail_at n i)) ≢ x))
+
+-- before any place is read, nothing has changed
+pub undone_none : (n : ℕ) (ws : List ℤ) → Undone n 0 0 ws ws
+undone_none n ws = record {
+  fewer = omega arith;
+  trail = refl;
+  ahead = λ _ _ _. refl;
+  out = outside_none (2 * n) (2 * n) ws;
+  values = λ _ _ _. refl;
+  gone = λ x h m. inr (refl, λ i k. let q : ⊥ = omega arith in absurd q);
+}
 
 -- rows do not change
 rows_same : (n : ℕ) (was now : List ℤ) → Outside (2 * n) (2 * n) was now → (l : ℤ) → entry_of n now l ≡ entry_of n was l

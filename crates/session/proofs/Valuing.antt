@@ -1,6 +1,7 @@
 -- The value of a literal, by the valuation and by the trail.
 use Rattle.std.proofs.Common.{◌≡◌, ℕ, suc, Bool, true, false, cond, not, ◌&&◌, eqb, List, ℤ, pos, negsuc, neg_ℤ, nat_abs, refl, ◌∙◌, arith}
-use Rattle.std.proofs.lemmas.Bool.{ne_eqb}
+use lib.Signed.{lt_z}
+use Rattle.std.proofs.lemmas.Bool.{ne_eqb, lt-ltb}
 use Rattle.rules.specs.Literals.{in_range}
 use Rattle.rules.specs.Sources.{true_in}
 use Rattle.rules.specs.Values.{value_in}
@@ -23,4 +24,13 @@ open_is t a = by (on t (pos (suc a))) (on t (negsuc a))
     by : (p q : Bool) → eqb (nat_abs (cond p (pos (suc a)) (cond q (negsuc a) (pos 0)))) 0 ≡ (not p && not q)
     by true q = ne_eqb (suc a) 0 (λ z. omega arith)
     by false true = ne_eqb (suc a) 0 (λ z. omega arith)
+    by false false = refl
+
+-- a variable is true when its value is above 0
+pub above_zero : (t : Trail) (x : ℕ) → lt_z (pos 0) (word t (suc x)) ≡ on t (pos (suc x))
+above_zero t x = by (on t (pos (suc x))) (on t (negsuc x))
+  where
+    by : (p q : Bool) → lt_z (pos 0) (cond p (pos (suc x)) (cond q (negsuc x) (pos 0))) ≡ p
+    by true q = lt-ltb 0 (suc x) (omega arith)
+    by false true = refl
     by false false = refl
