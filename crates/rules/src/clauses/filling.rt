@@ -99,7 +99,7 @@ impl Book for ClauseBook<'_> {
     fn push(&mut self, literal: i32) {
         if !is_in_range(literal, self.buffer.variables) {
             self.buffer.fault = Some(Refusal::NoVariable);
-        } else if !self.buffer.has(literal) {
+        } else if self.buffer.fault.is_none() && !self.buffer.has(literal) {
             self.buffer.push(literal);
         }
     }
